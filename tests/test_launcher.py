@@ -19,7 +19,8 @@ import forked
 from common import TOP
 from hemtoghai.__main__ import COMMANDS
 from hemtoghai.dev import progress
-from hemtoghai.launching import records, words as commands
+from hemtoghai.dev.manual import rows_of
+from hemtoghai.launching import records, table, words as commands
 from hemtoghai.launching.help import PURPOSES
 
 # As rt does, it keeps others out of the crate's folder and of those below it, refuses a crate whose lower ones aren't
@@ -99,8 +100,13 @@ if "1.5" in text:
     print("error 3 line 2 bad-number")
     sys.exit(3)
 print(words, repr(text))
-""" % sorted(commands.FORMS)
+""" % sorted(table.FORMS)
 GOOD = "['check'] 'a\\n'\n"
+
+
+def plain(cell):
+    """A cell of a table of a document without links and backquotes."""
+    return re.sub(r"\[(`[^`]*`|[^]]*)\]\([^)]*\)", r"\1", cell).replace("`", "")
 
 
 class Place(unittest.TestCase):
@@ -412,15 +418,15 @@ class Words(Built, Processes):
             text = file.read()
         text = text[text.index("pub help_text : "):]  # what the program's own `help` is defined to write
         forms = "".join(re.findall('codes "([^"]*)"', text.partition("\n\n")[0])).split("\\n")[:-1]
-        self.assertEqual([form for form, _ in commands.COMMANDS], forms)
+        self.assertEqual([form for form, _ in table.COMMANDS], forms)
         os.remove(self.path("crates/show_cli/out/show_cli"))
         self.calls()
         for words in ([], ["-h"], ["--help"]):
             status, said, told = self.show(*words)
             self.assertEqual((status, told), (0, ""))
-            self.assertEqual(re.findall("^([a-z]+) [^:\n]*  ", said, re.M), [*commands.FORMS, *PURPOSES])
+            self.assertEqual(re.findall("^([a-z]+) [^:\n]*  ", said, re.M), [*table.FORMS, *PURPOSES])
         self.assertEqual(set(PURPOSES), {word for word in COMMANDS if "_" not in word})
-        for command, form in commands.FORMS.items():
+        for command, form in table.FORMS.items():
             for words in ((command, "--help"), (command, "good", "-h")):
                 status, said, told = self.show(*words)
                 self.assertEqual((status, told), (0, ""))
@@ -433,24 +439,38 @@ class Words(Built, Processes):
         self.assertEqual(self.calls(), [])
 
     def test_table(self):
-        # What the launcher reads in the tables of COMMANDS.md, for the commands that were there first.
         for name, limits in (("D", (0, 8)), ("MS", (1, 60000)), ("N", (1, 32)), ("V", (1, 999999999)), ("E", (0, 5))):
-            self.assertEqual(commands.NUMBERS[name], limits)
+            self.assertEqual(table.NUMBERS[name], limits)
         for command, second in (("verify", "certificate"), ("rehearse", "schedule"), ("upload", "frames"),
                                 ("boxes", "regions")):
-            self.assertEqual(commands.SECOND[command], second)
-        self.assertEqual([command for command in commands.FORMS if command in ("check", "play", "help", "drill")
-                          and command not in commands.SECOND and command not in commands.NO_INPUT], ["check", "play"])
+            self.assertEqual(table.SECOND[command], second)
+        self.assertEqual([command for command in table.FORMS if command in ("check", "play", "help", "drill")
+                          and command not in table.SECOND and command not in table.NO_INPUT], ["check", "play"])
         self.assertEqual(commands.options_of("rehearse"), {"--depth": "D", "--start": None, "--readback": None})
 
-    def test_no_table(self):
+    def test_table_of_the_page(self):
+        # The tables of COMMANDS.md have the same rows, and limits where a number has these.
+        with open(os.path.join(TOP, "docs", "COMMANDS.md"), encoding="utf-8") as file:
+            page = file.read()
+        for head, rows in (("| Words | Input | Output at status 0 |", table.ROWS),
+                           ("| Option | Number | Without it |", table.OPTIONS)):
+            found = [tuple(plain(cell) for cell in row) for row in rows_of(page, head)]
+            self.assertEqual(found, list(rows))
+            self.assertGreater(len(found), 15)
+        limits = {}
+        for option, words, _ in table.OPTIONS:
+            if found := re.match(r"([0-9,]+) to ([0-9,]+)\b", words):
+                name = option.split()[1] if option.startswith("--") else option.split()[0]
+                low, high = (int(digits.replace(",", "")) for digits in found.groups())
+                self.assertEqual(limits.setdefault(name, (low, high)), (low, high), option)
+        self.assertEqual(limits, table.NUMBERS)
+
+    def test_no_documents(self):
+        # Nothing is read of the documents.
+        wanted = self.show("check", "good"), self.show("check", "--help"), self.show("--help")
         os.remove(self.path("docs"))
-        os.makedirs(self.path("docs"))
-        os.remove(self.path("python"))
-        shutil.copytree(os.path.join(TOP, "python"), self.path("python"))
-        status, said, told = self.show("check", "good")
-        self.assertEqual((status, said, told.count("\n")), (70, "", 1), told)
-        self.assertIn("docs/COMMANDS.md: No such file", told)
+        self.assertEqual((self.show("check", "good"), self.show("check", "--help"), self.show("--help")), wanted)
+        self.assertEqual([status for status, _, _ in wanted], [0, 0, 0])
 
     def test_options(self):
         # Options before, behind and between, as two words or one.

@@ -174,10 +174,10 @@ class Verdicts(Case):
 
     def test_limits(self):
         # They are those of the options of the program.
-        from hemtoghai.launching import words
-        options = {option: number for form in words.FORMS for option, number in words.options_of(form).items() if number}
+        from hemtoghai.launching import table, words
+        options = {option: number for form in table.FORMS for option, number in words.options_of(form).items() if number}
         for name, limits in judging.LIMITS.items():
-            self.assertEqual(words.NUMBERS[options["--" + name]], limits, name)
+            self.assertEqual(table.NUMBERS[options["--" + name]], limits, name)
 
     def test_any_command(self):
         verdict = hemtoghai.run("check --depth 4", CROSSING)

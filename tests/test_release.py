@@ -25,7 +25,7 @@ from hemtoghai.language import choreo
 from hemtoghai.dev import release
 from hemtoghai.__main__ import COMMANDS
 from hemtoghai.dev import manual
-from hemtoghai.launching import words as commands
+from hemtoghai.launching import table
 from plans import plan_of
 
 PROVED = "logic=proved functions=3 axioms=1"
@@ -685,7 +685,7 @@ class Manual(unittest.TestCase):
     def test_page(self):
         text = manual.page("7.8.9")
         self.assertEqual(set(re.findall(r"^\.\S*", text, re.M)), {".TH", ".SH", ".B", ".br", ".TP"})
-        for form, what in commands.COMMANDS:
+        for form, what in table.COMMANDS:
             self.assertIn("\n.TP\n.B %s\n%s" % (form.replace("-", "\\-"), what[:1].upper()), text)
         with open(os.path.join(TOP, "docs", "COMMANDS.md")) as file:
             page = file.read()
@@ -709,7 +709,7 @@ class Manual(unittest.TestCase):
         return said.split("\n")[:-1]
 
     def test_completion(self):
-        self.assertEqual(self.completed("./show", "")[:len(commands.FORMS)], list(commands.FORMS))
+        self.assertEqual(self.completed("./show", "")[:len(table.FORMS)], list(table.FORMS))
         for word in (word for word in COMMANDS if "_" not in word):
             self.assertIn(word, self.completed("./show", ""))
         for words, wanted in ((("sp",), ["speed"]), (("--un",), ["--unproved"]), (("--unproved", "dr"), ["drill"]),

@@ -179,6 +179,7 @@ YESES = {
     "launching/running.py ended": ("handed", RUN),
     "launching/running.py fed": ("handed", RUN),
     "launching/running.py started": ("handed", NUMBER),
+    "launching/table.py -": ("valid", "what each command writes at status 0, as docs/COMMANDS.md has it"),
     "launching/words.py fault_of_option": ("proved", NO),
     "seeing/sampling.py mark_of": ("apart apart", NO),
     "seeing/studio_program.py Program.now": ("proved proved", RECORD),

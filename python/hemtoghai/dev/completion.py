@@ -1,5 +1,5 @@
 """The completion of ./show and of `hemtoghai`, for Bash, Zsh and Fish: all words, their options, and the words of which an
-option takes one. Made from the tables of docs/COMMANDS.md, and from what each tool reads."""
+option takes one. Made from the table of commands, and from what each tool reads."""
 from __future__ import annotations
 
 import argparse
@@ -9,7 +9,7 @@ from typing import NamedTuple
 
 from hemtoghai import companion
 from hemtoghai.__main__ import COMMANDS, WITH_JSON
-from hemtoghai.launching import words as commands
+from hemtoghai.launching import table, words as commands
 from hemtoghai.launching.help import PURPOSES
 
 # Words after a tool's own, each with options of its own.
@@ -72,7 +72,7 @@ def readers_of(word: str) -> list[argparse.ArgumentParser]:
 
 def few_of(number: str) -> list[str]:
     """The numbers that may stand for a name of the table of options, where they are few."""
-    low, high = commands.NUMBERS[number]
+    low, high = table.NUMBERS[number]
     return [str(k) for k in range(low, high + 1)] if high < 10 else []
 
 
@@ -101,7 +101,7 @@ def tool(name: str, text: str) -> Word:
 
 def own_options(command: str) -> list[Option]:
     """The options of a command of the program."""
-    texts = {row[0].split()[0]: row[1] for row in commands.OPTIONS}
+    texts = {row[0].split()[0]: row[1] for row in table.OPTIONS}
     out = []
     for name, number in commands.options_of(command).items():
         few = commands.choices_of(number) or few_of(number) if number else []
@@ -111,7 +111,7 @@ def own_options(command: str) -> list[Option]:
 
 def all_words() -> list[Word]:
     """All words of ./show, the program's own first."""
-    own = [Word(name, commands.PURPOSES[name], own_options(name), []) for name in commands.FORMS]
+    own = [Word(name, table.PURPOSES[name], own_options(name), []) for name in table.FORMS]
     words = own + [tool(name, text) for name, text in PURPOSES.items()]
     json = Option("--json", "", [], "the answer as one line of JSON")
     end = Option("--help", "", [], "what the word does, and its options")
@@ -239,7 +239,7 @@ def fish(words: list[Word]) -> str:
         for option in it.options:
             takes = " -x -a '%s'" % " ".join(option.choices) if option.choices else " -r" * bool(option.number)
             rows.append("    complete -c $name -n '__show_is %s' -l %s%s -d %s" % (
-                it.name, option.name[2:], takes, quoted(commands.plain(option.text))))
+                it.name, option.name[2:], takes, quoted(option.text.replace("`", ""))))
     return FISH % (" ".join(BEFORE), "\n".join(rows))
 
 

@@ -1,5 +1,5 @@
-"""The manual page of ./show and its completion for a shell, made from the tables of docs/COMMANDS.md and from the words
-that each tool reads.
+"""The manual page of ./show and its completion for a shell, made from the table of commands, from those of options and
+statuses in docs/COMMANDS.md, and from the words that each tool reads.
 
     ./show manual page > show.1; man ./show.1
     ./show manual completion > show.bash; . ./show.bash
@@ -10,14 +10,30 @@ that each tool reads.
 """
 from __future__ import annotations
 
+import os
 import re
 import sys
 
 from hemtoghai.__main__ import WITH_JSON
 from hemtoghai.companion import parser
 from hemtoghai.dev.completion import all_words, completion as completion, SHELLS, Word
-from hemtoghai.launching import records, words as commands
+from hemtoghai.launching import records, table
 from hemtoghai.launching.help import PURPOSES as OTHERS
+from hemtoghai.program import TOP
+
+
+def rows_of(document: str, head: str) -> list[list[str]]:
+    """The rows of the table of a document that has this head; ValueError where it has none."""
+    _, found, rest = ("\n" + document).partition("\n%s\n" % head)
+    rows = []
+    for line in rest.split("\n") if found else ():
+        if not line.startswith("|"):
+            break
+        cells = line.replace("\\|", "\0").strip("|").split("|")
+        rows.append([cell.strip().replace("\0", "|") for cell in cells])
+    if len(rows) < 2:
+        raise ValueError("docs/COMMANDS.md has no table " + head)
+    return rows[1:]
 
 
 def roff(text: str) -> str:
@@ -35,15 +51,17 @@ def options_of(word: Word) -> list[str]:
 
 
 def page(version: str) -> str:
+    with open(os.path.join(TOP, "docs", "COMMANDS.md"), encoding="utf-8") as file:
+        document = file.read()
     out = ['.TH SHOW 1 "" "hemtoghai %s" "Hemtoghai"' % version, ".SH NAME",
            "show \\- compiles and judges shows of drones", ".SH SYNOPSIS"]
-    for form in commands.FORMS.values():
+    for form in table.FORMS.values():
         out += [".B ./show %s" % roff(form), ".br"]
     for option in ("proved COMMAND ..", "unproved COMMAND ..", "version"):
         out += [".B ./show \\-\\-" + option, ".br"]
     out[-1] = ".SH COMMANDS"
-    for form, what in commands.COMMANDS:
-        second = commands.SECOND.get(form.split()[0])
+    for form, what in table.COMMANDS:
+        second = table.SECOND.get(form.split()[0])
         out += [".TP", ".B " + roff(form), roff(what[0].upper() + what[1:]) + "."]
         if second:
             out.append("Link frames follow the show." if second == "frames" else "The second part: %s." % second)
@@ -54,10 +72,10 @@ def page(version: str) -> str:
     for word, what in OTHERS.items():
         out += [".TP", ".B " + word, roff(what[0].upper() + what[1:]) + ".", *options_of(words[word])]
     out += [".SH OPTIONS", "Options may stand before and behind the files."]
-    for option, number, without in commands.table(commands.page, "| Option | Number | Without it |"):
+    for option, number, without in rows_of(document, "| Option | Number | Without it |"):
         out += [".TP", roff(option), "%s. Without it: %s." % (roff(number[0].upper() + number[1:]), roff(without))]
     out.append(".SH EXIT STATUS")
-    for status, said, happened, do in commands.table(commands.page, "| Status | Output | What happened | What to do |"):
+    for status, said, happened, do in rows_of(document, "| Status | Output | What happened | What to do |"):
         out += [".TP", "%s: %s" % (roff(status), roff(said)), roff(happened[:1].upper() + happened[1:]) + "."]
         if do:
             out.append("What to do: %s." % roff(do))

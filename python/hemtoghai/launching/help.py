@@ -8,7 +8,7 @@ import sys
 
 from hemtoghai import program, texts
 from hemtoghai.__main__ import COMMANDS, WITH_JSON
-from hemtoghai.launching import running, words as commands
+from hemtoghai.launching import running, table, words as commands
 from hemtoghai.launching.launcher import file_for, file_if_current, say
 from hemtoghai.program import COMMAND
 
@@ -72,19 +72,19 @@ PURPOSES = {
 
 def help_text() -> str:
     import textwrap
-    return (USAGE % ("\n".join("%-44s  %s" % row for row in commands.COMMANDS),
+    return (USAGE % ("\n".join("%-44s  %s" % row for row in table.COMMANDS),
                      "\n".join(textwrap.fill("%-13s %s. Without it: %s." % tuple(row), 108, subsequent_indent=" " * 14)
-                               for row in commands.OPTIONS),
+                               for row in table.OPTIONS),
                      "\n".join("%-45s %s" % it for it in PURPOSES.items() if it[0] in COMMANDS))).replace(
         "./show", COMMAND)
 
 
 def usage_of(command: str) -> str:
-    second = commands.SECOND.get(command)
-    files = "" if command in commands.NO_INPUT else " [SHOW]" if not second else " [SHOW [%s]]" % second.upper()
-    lines = ["usage: %s %s%s" % (COMMAND, commands.FORMS[command], files), "", commands.PURPOSES[command]]
+    second = table.SECOND.get(command)
+    files = "" if command in table.NO_INPUT else " [SHOW]" if not second else " [SHOW [%s]]" % second.upper()
+    lines = ["usage: %s %s%s" % (COMMAND, table.FORMS[command], files), "", table.PURPOSES[command]]
     numbers = [commands.number_of(command), *commands.options_of(command).values()]
-    lines += ["%s is %d to %d" % (name, *commands.NUMBERS[name])
+    lines += ["%s is %d to %d" % (name, *table.NUMBERS[name])
               for name in dict.fromkeys(numbers) if name and not commands.choices_of(name)]
     if command in WITH_JSON:
         lines.append("--json writes the answer as values, in one line of JSON")
@@ -105,14 +105,14 @@ def fault_of_file(file: str) -> str | None:
 
 
 def fault_of_files(words: list[str], files: list[str]) -> str | None:
-    command, second = words[0], commands.SECOND.get(words[0])
+    command, second = words[0], table.SECOND.get(words[0])
     for file in files:
         fault = fault_of_file(file) if file != "-" else None
         if fault:
             return fault
     if second == "frames" and len(files) > 1 and "-" in files:
         return "upload reads frames while it writes: { cat SHOW; echo %%%%; cat; } | %s upload" % COMMAND
-    if command in commands.NO_INPUT and files:
+    if command in table.NO_INPUT and files:
         return "%s reads no file" % command
     if command == "upload" and len(files) == 1 and sys.stdout.isatty():
         return "upload writes frames for a bridge, and nothing for people: %s bridge %s" % (COMMAND, files[0])

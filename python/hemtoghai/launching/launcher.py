@@ -14,7 +14,7 @@ if TYPE_CHECKING:
     from typing import NoReturn
 
 from hemtoghai import program, streams, texts
-from hemtoghai.launching import running, seen, words as commands
+from hemtoghai.launching import running, seen, table, words as commands
 
 REFUSALS = (2, 3, 4, 5, 11, 12, 15, 16, 18)  # statuses with a fault line about the words or the input
 STARTS = 3  # how often a program that is exchanged meanwhile is looked at anew
@@ -87,7 +87,7 @@ def fault_of_demand(words: list[str]) -> str | None:
 
 def fault_of_files(words: list[str], files: list[str]) -> str | None:
     """What is wrong with the files, or None; by a short look where a command reads a show alone, and all is usual."""
-    if not (len(files) > 1 or words[0] in ("upload", "boxes") or words[0] in commands.known("NO_INPUT")) and all(
+    if not (len(files) > 1 or words[0] in ("upload", "boxes") or words[0] in table.NO_INPUT) and all(
             file == "-" or os.path.isfile(file) and os.access(file, os.R_OK) for file in files):
         return None
     from hemtoghai.launching import help
@@ -98,7 +98,7 @@ def input_number(words: list[str], files: list[str]) -> int:
     """The open file that is the input of a command with one part."""
     if files and files != ["-"]:
         return os.open(files[0], os.O_RDONLY)
-    if words[0] in commands.NO_INPUT:
+    if words[0] in table.NO_INPUT:
         return os.open(os.devnull, os.O_RDONLY)
     if os.isatty(0):
         say("reading standard input; Ctrl-D ends it")
@@ -125,7 +125,7 @@ def answer(found: str | None, words: list[str], files: list[str]) -> int:
     else:
         status = running.ended(running.started(found, words, number))
     if found and (status in REFUSALS or status == 0 and words[0] in ("check", "compile")):
-        text = text_of(number, begin, files) if words[0] not in commands.NO_INPUT else None
+        text = text_of(number, begin, files) if words[0] not in table.NO_INPUT else None
         if text is not None:
             if status:
                 from hemtoghai.launching import help
@@ -150,7 +150,7 @@ def main(words: list[str]) -> int:
     if words == ["--version"]:
         from hemtoghai.launching import records
         return records.print_version()
-    if words[0] in commands.FORMS and ("--help" in words or "-h" in words):
+    if words[0] in table.FORMS and ("--help" in words or "-h" in words):
         from hemtoghai.launching.help import usage_of
         sys.stdout.write(usage_of(words[0]))
         return 0

@@ -1,91 +1,18 @@
-"""The commands of the program, with their options, numbers and files, as the first two tables of docs/COMMANDS.md have
-them: for ./show, its help (help.py), the manual page and the completion. The program's own `help` has the same forms.
-"""
+"""The words of a command line of ./show: the program's own, the files, and what is wrong with them; by the table of
+commands (table.py)."""
 from __future__ import annotations
 
-import os
-
-from hemtoghai.program import absent, COMMAND, TOP, Unusable
+from hemtoghai.launching.table import FORMS, NUMBERS
+from hemtoghai.program import COMMAND
 
 TYPE_CHECKING = False  # of a reader of types, for which `typing` needn't be imported
 if TYPE_CHECKING:
     from collections.abc import Iterable
-    from typing import Any
-
-PAGE = os.path.join(TOP, "docs", "COMMANDS.md")
-READ = ("page", "ROWS", "OPTIONS", "COMMANDS", "FORMS", "PURPOSES", "SECOND", "NO_INPUT", "NUMBERS")
-
-
-def table(document: str, head: str) -> list[list[str]]:
-    """The rows of the table of a document that has this head; ValueError where it has none."""
-    _, found, rest = ("\n" + document).partition("\n%s\n" % head)
-    rows = []
-    for line in rest.split("\n") if found else ():
-        if not line.startswith("|"):
-            break
-        cells = line.replace("\\|", "\0").strip("|").split("|")
-        rows.append([cell.strip().replace("\0", "|") for cell in cells])
-    if len(rows) < 2:
-        raise ValueError("%s has no table %s" % (PAGE, head))
-    return rows[1:]
-
-
-def plain(cell: str) -> str:
-    """A cell of a table without links and backquotes."""
-    while "](" in cell:  # the label of a link may have brackets between backquotes
-        front, _, rest = cell.partition("](")
-        before, _, label = front.rpartition("[`" if front.endswith("`") else "[")
-        cell = before + label + rest.partition(")")[2]
-    return cell.replace("`", "").replace("**", "")
-
-
-def limits_of(words: str) -> tuple[int, int] | None:
-    """The least and the greatest value that the words of a number begin with, or None."""
-    low, to, high = [*words.replace(",", "").split(), "", "", ""][:3]
-    high = high.rstrip(":;")
-    return (int(low), int(high)) if to == "to" and low.isdigit() and high.isdigit() else None
-
-
-def read() -> dict[str, Any]:
-    """What the tables say, by the names in READ."""
-    try:
-        with open(PAGE, encoding="utf-8") as file:
-            document = file.read()
-    except FileNotFoundError:
-        if os.path.exists(os.path.join(TOP, "show")):
-            raise
-        raise Unusable(absent()) from None
-    rows = [[plain(cell) for cell in row] for row in table(document, "| Words | Input | Output at status 0 |")]
-    options = [[plain(cell) for cell in row] for row in table(document, "| Option | Number | Without it |")]
-    numbers = {}  # the least and greatest value of a number, by its name: that of an option, or the first word of a row
-    for option, range_of, _ in options:
-        if limits := limits_of(range_of):
-            numbers[option.split()[1] if option.startswith("--") else option.split()[0]] = limits
-    return {"page": document, "ROWS": rows, "OPTIONS": options, "NUMBERS": numbers,
-            "COMMANDS": [(form, written) for form, _, written in rows],
-            "FORMS": {form.split()[0]: form for form, _, _ in rows},
-            "PURPOSES": {form.split()[0]: written for form, _, written in rows},
-            # What stands behind the show and a marker line, in the commands that read two parts.
-            "SECOND": {form.split()[0]: given.split()[-1] for form, given, _ in rows if ", a marker line, " in given},
-            "NO_INPUT": [form.split()[0] for form, given, _ in rows if given == "nothing"]}
-
-
-def __getattr__(name: str) -> Any:
-    """What the tables say, read once where it is first asked for."""
-    if name not in READ:
-        raise AttributeError(name)
-    globals().update(read())
-    return globals()[name]
-
-
-def known(name: str) -> Any:
-    """The same for this module itself."""
-    return globals()[name] if name in globals() else __getattr__(name)
 
 
 def options_of(command: str) -> dict[str, str | None]:
     """A command's options, each with the name of its number, or None where it has none."""
-    words = [part.partition("]")[0].split() for part in known("FORMS")[command].split("[")[1:]]
+    words = [part.partition("]")[0].split() for part in FORMS[command].split("[")[1:]]
     return {word[0]: word[1] if len(word) > 1 else None for word in words if word[0].startswith("--")}
 
 
@@ -96,7 +23,7 @@ def choices_of(name: str) -> list[str]:
 
 def number_of(command: str) -> str | None:
     """The name of the number that follows the command itself, or None."""
-    words = known("FORMS")[command].split()
+    words = FORMS[command].split()
     return words[1] if len(words) > 1 and words[1].isupper() else None
 
 
@@ -112,7 +39,7 @@ def fault_of_number(name: str, word: str | None) -> str | None:
     if choices_of(name):
         return None if word in choices_of(name) else "it is %s%s" % (
             " or ".join(choices_of(name)), "" if word is None else ", not %s" % word)
-    low, high = known("NUMBERS")[name]
+    low, high = NUMBERS[name]
     if word is not None and word.isascii() and word.isdigit() and len(word) < 10 and low <= int(word) <= high:
         return None
     return "%s is %d to %d%s" % (name, low, high, "" if word is None else ", not %s" % word)
@@ -131,9 +58,9 @@ def split(words: list[str]) -> tuple[list[str], list[str], str | None]:
     """The program's words, the files, and what is wrong with the words or None. Options may stand anywhere, and as
     --depth=6; after -- all words are files."""
     command, left = words[0], list(words[1:])
-    if command not in known("FORMS"):
+    if command not in FORMS:
         from hemtoghai.__main__ import COMMANDS
-        better = meant(command, [*known("FORMS"), *COMMANDS]) or "; %s --help lists them" % COMMAND
+        better = meant(command, [*FORMS, *COMMANDS]) or "; %s --help lists them" % COMMAND
         return words, [], "there is no command %s%s" % (command, better)
     front, its = [command], options_of(command)
     files: list[str] = []
