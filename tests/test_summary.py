@@ -3,7 +3,6 @@ import contextlib
 import io
 import itertools
 import json
-import os
 import random
 import tempfile
 import unittest
@@ -13,8 +12,9 @@ import common
 from hemtoghai import __main__
 from hemtoghai.commands import summary
 from hemtoghai.flying import stages
-from hemtoghai.geometry.nearest import nearest_in
+from hemtoghai.geometry import nearest
 from hemtoghai.language import choreo
+from hemtoghai.seeing import sampling
 
 # `a` ends on the floor, or a millimetre below what is enough: then no way down begins with it.
 SHOW = "choreo 2\ndrone a 0 0 1m 0\ncue 4s\na move 0 0 %s 0\nend\n"
@@ -81,13 +81,13 @@ class Long(common.Folder, unittest.TestCase):
         chance = random.Random(9)
         for _ in range(6):
             flown = choreo.flown_of(random_show(chance, 4, 5))
-            by_all = {(i, j): min(nearest_in(flown, i, j, cue).share for cue in range(len(flown.cues)))
+            by_all = {(i, j): min(nearest.nearest_in(flown, i, j, cue).share for cue in range(len(flown.cues)))
                       for i, j in itertools.combinations(range(4), 2)}
-            rows, left_out = summary.nearest_pairs(flown)
+            rows, left_out = nearest.nearest_pairs(flown)
             self.assertEqual(({row[1:3]: row[0] for row in rows}, left_out), (by_all, 0))
             self.assertEqual([row[0] for row in rows], sorted(by_all.values()))
-            with mock.patch.object(summary, "MOST_NEAR", 6):
-                fewer, left_out = summary.nearest_pairs(flown)
+            with mock.patch.object(nearest, "MOST_NEAR", 6):
+                fewer, left_out = nearest.nearest_pairs(flown)
             self.assertEqual(len(fewer), 6)
             self.assertTrue(all(row[0] >= by_all[row[1:3]] for row in fewer))
             self.assertGreaterEqual(left_out, sum(row[0] > by_all[row[1:3]] for row in fewer))
@@ -95,8 +95,8 @@ class Long(common.Folder, unittest.TestCase):
 
     def test_says_so(self):
         flown = choreo.flown_of(random_show(random.Random(4), 4, 5))
-        for most, near, lines in ((summary.MOST_PLACES, summary.MOST_NEAR, False), (10 * 10, 6, True)):
-            with mock.patch.object(summary, "MOST_PLACES", most), mock.patch.object(summary, "MOST_NEAR", near), \
+        for most, near, lines in ((sampling.MOST_LOOKED, nearest.MOST_NEAR, False), (10 * 10, 6, True)):
+            with mock.patch.object(sampling, "MOST_LOOKED", most), mock.patch.object(nearest, "MOST_NEAR", near), \
                     contextlib.redirect_stdout(io.StringIO()) as out:
                 summary.print_drones(flown, None)
                 summary.print_nearest(flown, 2)
@@ -107,8 +107,8 @@ class Long(common.Folder, unittest.TestCase):
         found = []
         with tempfile.TemporaryDirectory() as self.place:
             self.write("show", random_show(random.Random(4), 4, 5))
-            for near in (summary.MOST_NEAR, 6):
-                with mock.patch.object(summary, "MOST_NEAR", near), contextlib.redirect_stdout(io.StringIO()) as out, \
+            for near in (nearest.MOST_NEAR, 6):
+                with mock.patch.object(nearest, "MOST_NEAR", near), contextlib.redirect_stdout(io.StringIO()) as out, \
                         contextlib.redirect_stderr(io.StringIO()):
                     __main__.main(["summary", "--json", self.path("show")])
                 found.append(json.loads(out.getvalue()))

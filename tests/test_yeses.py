@@ -114,13 +114,11 @@ YESES = {
     "commands/studio.py main": ("0", "says that the studio was ended, and nothing of the show"),
     "commands/studio.py serve": ("PROVED proved", NO),
     "commands/summary.py main": ("0", TOLD),
-    "commands/summary.py places_in": ("handed", NUMBER),
     "commands/summary.py print_margin": ("accepted accepted", PROGRAM),
     "commands/summary.py print_ways": ("as a whole stage by stage", WAY),
     "commands/why.py explain_separation": ("0 handed", "how many are blocked: none is no yes by itself, see main"),
     "commands/why.py main": ("4 Nothing is blocked apart handed", PROGRAM + "; 70 without it, and where the two differ"),
     "commands/why.py print_counts": ("apart apart", "of places at which `check` or the tool refuses the show"),
-    "commands/why.py print_place": ("APART APART", "of two at one instant, of a place at which the show is refused"),
     "commands/without.py main": ("handed", PROGRAM + "; 70 without it"),
     "exchange/export_csv.py main": ("0", WRITTEN),
     "exchange/export_skyc.py main": ("0", WRITTEN),
@@ -192,6 +190,7 @@ YESES = {
     "streams.py status_of": ("handed handed handed handed handed", PASSED + "; 70 in place of 0 where words were lost"),
     "writing/meetings.py -": ("separated", "what `explain` writes where it finds no blocked part"),
     "writing/flyable.py stacked": ("apart", NO),
+    "writing/places.py print_place": ("APART APART", "of two at one instant, of a place at which the show is refused"),
 }
 # Scripts of the studio's page that may say so, and why. Their words are tried in tests/test_studio_safety.py.
 SCRIPTS = {"seeing/studio_found.js": PROGRAM + " of the text as it stands, and its record; else it says NOT PROVED"}

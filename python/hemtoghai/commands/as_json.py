@@ -27,10 +27,12 @@ from math import hypot
 from typing import Any
 
 from hemtoghai import companion, judging, streams, texts
-from hemtoghai.commands import summary, why
+from hemtoghai.geometry.nearest import nearest_pairs
 from hemtoghai.language import choreo
 from hemtoghai.launching import launcher, words as commands
 from hemtoghai.program import NAME, Unusable
+from hemtoghai.seeing.sampling import look, places_in
+from hemtoghai.writing.helping import helps
 from hemtoghai.writing.margins import margins_of
 from hemtoghai.writing.meetings import ALL, MORE, PLACE
 from hemtoghai.writing.trials import Trials
@@ -156,7 +158,7 @@ def helped(trials: Trials, place: judging.Blocked) -> dict[str, Any]:
     """What helps two drones in a cue: each remedy with the names of those that are still blocked then."""
     i, j = trials.flown.names.index(place.first), trials.flown.names.index(place.second)
     begins = place.begin_ms == trials.flown.begins[place.cue - 1]
-    ends, rows = why.helps(trials, i, j, place.cue - 1, begins)
+    ends, rows = helps(trials, i, j, place.cue - 1, begins)
     return {"blocked_where_the_cue": ends, "helps": [
         {"words": remedy.words, "takes_ms": remedy.takes, "still_blocked": left} for remedy, left in rows[:3]]}
 
@@ -180,7 +182,7 @@ def by_why(words: list[str]) -> int:
 
 
 def drone_data(flown: choreo.Flown, drone: int, places: int, motions: dict[str, dict[str, Any]]) -> dict[str, Any]:
-    fastest, box = summary.look(flown, drone, places)
+    fastest, box = look(flown, drone, places)
     return {"name": flown.names[drone], "bytes": len(flown.data()[drone]), "room": flown.room(),
             "pieces": len(flown.sent[drone]), "top_speed": round(1e6 * fastest),
             "box": [[round(1000 * low), round(1000 * high)] for low, high in box],
@@ -212,7 +214,7 @@ def by_summary(words: list[str]) -> int:
              "acts": {name: act for name, (_, act, _) in cue.acts.items()}}
             for cue, begin, end in zip(flown.cues, times, times[1:])]
     settings = {word: list(row) for word, row in flown.show.settings.items()}
-    places, (pairs, left_out) = summary.places_in(flown), summary.nearest_pairs(flown)
+    places, (pairs, left_out) = places_in(flown), nearest_pairs(flown)
     more = {"duration_ms": flown.milliseconds, "settings": settings,
             "drones": [drone_data(flown, k, places, motions) for k in range(len(flown.names))], "instants": places,
             "cues": cues, "pairs": [pair_data(flown, *row) for row in pairs], "pairs_maybe_nearer": left_out}

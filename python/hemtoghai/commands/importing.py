@@ -23,14 +23,12 @@ from __future__ import annotations
 import argparse
 import math
 import os
-import re
 import sys
-from collections.abc import Callable, Sequence
+from collections.abc import Callable
 from fractions import Fraction
 from typing import Any, NamedTuple, NoReturn
 
 from hemtoghai import program
-from hemtoghai.commands import why
 from hemtoghai.companion import add_depth, ask, begins, many, missing, parser, stop
 from hemtoghai.exchange import foreign
 from hemtoghai.geometry import fitting
@@ -39,6 +37,7 @@ from hemtoghai.language import choreo
 from hemtoghai.language.lines import header, line_in, NEWEST
 from hemtoghai.streams import shown
 from hemtoghai.writing.meetings import meetings_of
+from hemtoghai.writing.places import print_place
 from hemtoghai.writing.trials import Trials
 
 Paths = list[Path[Fraction]]
@@ -132,7 +131,7 @@ def print_why(fit: fitting.Fit, text: str, wanted: Axes, deep: int) -> None:
         print("  and %s blocked, of this or other pairs%s" % (
             many(len(found) - 1, "more place"), "" if are_all else "; there may be more"))
     print("%s why, of the import: its cues and lines, and its larger ellipsoids" % program.COMMAND)
-    why.print_place(Trials(ask, flown, deep), text.encode().split(b"\n"), first, [])
+    print_place(Trials(ask, flown, deep), text.encode().split(b"\n"), first, [])
 
 
 # ---- limits

@@ -19,8 +19,8 @@ import sys
 from typing import Any
 
 from hemtoghai import program
-from hemtoghai.companion import (add_depth, ask_check, ask_dynamics, missing, parser, read_file, whole,
-                                 without_program, words_and_show)
+from hemtoghai.companion import (add_depth, ask_check, ask_dynamics, missing, parser, whole, without_program,
+                                 words_and_show)
 from hemtoghai.language.choreo import Flown
 from hemtoghai.seeing import drawing
 from hemtoghai.seeing.page import page_of

@@ -10,45 +10,21 @@ two as they are set. The status is 0, or that of a faulty show. 70: no answer.
 from __future__ import annotations
 
 from collections.abc import Iterable
-from itertools import combinations
-from math import hypot, inf
+from math import hypot
 
-from hemtoghai.companion import (add_depth, ask_check, ask_dynamics, begins, many, missing, Motion, no_program,
-                                 parser, place, seconds, value, words_and_show)
+from hemtoghai.companion import (add_depth, ask_dynamics, begins, many, missing, Motion, no_program, parser, place,
+                                 seconds, words_and_show)
 from hemtoghai.flying import legs
-from hemtoghai.geometry.nearest import nearest_in
+from hemtoghai.geometry.nearest import nearest_pairs
 from hemtoghai.language.choreo import Flown
 from hemtoghai.language.lines import line_in
 from hemtoghai.program import COMMAND
+from hemtoghai.seeing.sampling import look, PLACES, places_in
 from hemtoghai.writing.flyable import MOST
 from hemtoghai.writing.margins import margins_of
 
-PLACES, LEAST_PLACES = 32, 4  # instants of a cue at which speeds are looked at, and of one of a long show
-MOST_PLACES = 100000  # of all drones in all cues
-MOST_NEAR = 10000  # cues of pairs that are looked at closely
 MOST_ASKED = 1000  # questions to `check` in a search for a way
 LEAST = MOST["jump"] / 1000  # metres a second: what a jump is at most that comes of rounding, as `check` has it
-
-
-def places_in(flown: Flown) -> int:
-    """The instants of each cue at which speeds and boxes are looked at."""
-    flights = sum(len({(ms, id(elements)) for ms, elements in row}) for row in flown.by_cue)
-    return max(LEAST_PLACES, min(PLACES, MOST_PLACES // max(1, flights)))
-
-
-def look(flown: Flown, drone: int, places: int = PLACES) -> tuple[float, list[tuple[float, float]]]:
-    """A drone's top speed in metres a second, and its box in mm, by so many instants of each cue."""
-    speed = 0.0
-    box: list[list[float]] = [[], [], []]
-    for milliseconds, elements in {(flight[0], id(flight[1])): flight for flight in flown.by_cue[drone]}.values():
-        first = [[(len(row) - 1) * (b - a) / (milliseconds / 1000) for a, b in zip(row, row[1:])] or [0.0]
-                 for row in elements[:3]]  # the control values of the rate of change in a second
-        for at in range(places + 1):
-            u = at / places
-            speed = max(speed, hypot(*(value(row, u) / 1000 for row in first)))
-            for axis in range(3):
-                box[axis].append(value(elements[axis], u))
-    return speed, [(min(row), max(row)) for row in box]
 
 
 def triple(numbers: Iterable[float]) -> str:
@@ -91,40 +67,6 @@ def print_cues(flown: Flown) -> None:
                  for act, names in by_act.items()]
         print("%5d %12s %12s  %-12d %s" % (
             k + 1, seconds(times[k]), seconds(times[k + 1]), cue.number, "; ".join(words) or "all hold"))
-
-
-def least_shares(flown: Flown, i: int, j: int) -> list[tuple[float, int]]:
-    """What two drones' share of the distance at which their ellipsoids touch isn't less than in each cue, by the boxes
-    of their curves, with the cue; the least first. Of what both fly again, as in a repeat, there is the first cue."""
-    (r, h), found = flown.show.settings["ellipsoid"], dict[tuple[int, int], tuple[float, int]]()
-    for cue in range(len(flown.cues)):
-        first, second = flown.by_cue[i][cue][1], flown.by_cue[j][cue][1]
-        if (both := (id(first), id(second))) not in found:
-            gap = [max(0, min(b) - max(a), min(a) - max(b)) for a, b in zip(first[:3], second[:3])]
-            found[both] = hypot(gap[0] / r, gap[1] / r, gap[2] / h) / 2, cue
-    return sorted(found.values())
-
-
-def nearest_of(flown: Flown, i: int, j: int, most: int) -> tuple[tuple[float, int, int, int, float], bool]:
-    """Where two drones come nearest, measured by their ellipsoids: their share of the distance at which these touch,
-    the two, the cue and the fraction of it; and whether no cue was left out, where so many are looked at closely."""
-    best = (inf, i, j, 0, 0.0)
-    for number, (least, cue) in enumerate(least_shares(flown, i, j)):
-        if least >= best[0]:
-            break
-        if number == most:
-            return best, False
-        near = nearest_in(flown, i, j, cue)
-        best = (near.share, i, j, cue, near.at) if (near.share, cue) < (best[0], best[3]) else best
-    return best, True
-
-
-def nearest_pairs(flown: Flown) -> tuple[list[tuple[float, int, int, int, float]], int]:
-    """Where each pair comes nearest, as `nearest_of` has it, the nearest first; and of how many pairs cues were left
-    out."""
-    pairs = list(combinations(range(len(flown.names)), 2))
-    found = [nearest_of(flown, i, j, max(1, MOST_NEAR // len(pairs))) for i, j in pairs]
-    return sorted(row for row, _ in found), sum(not is_whole for _, is_whole in found)
 
 
 def print_nearest(flown: Flown, most: int) -> None:

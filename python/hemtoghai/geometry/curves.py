@@ -81,6 +81,12 @@ def powers(row: Sequence[int]) -> list[int]:
     return [comb(n, k) * sum((-1) ** (k - j) * comb(k, j) * row[j] for j in range(k + 1)) for k in range(n, -1, -1)]
 
 
+def derived(row: Sequence[float], milliseconds: int) -> list[float]:
+    """The control values of the derivative of a curve by time: of millimetres, in millimetres a second."""
+    degree = len(row) - 1
+    return [1000 * degree * (after - before) / milliseconds for before, after in zip(row, row[1:])] or [0.0]
+
+
 def value_of(coefficients: Sequence[int], u: float) -> float:
     """The place on an axis at a fraction of a curve, by its coefficients."""
     v = 0.0

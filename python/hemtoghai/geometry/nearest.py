@@ -3,7 +3,8 @@ no tool takes a yes or a no. Flights are those of `choreo`, as control values in
 from __future__ import annotations
 
 import heapq
-from math import comb, lcm
+from itertools import combinations
+from math import comb, hypot, inf, lcm
 
 from hemtoghai.geometry.curves import halves
 from hemtoghai.language.choreo import Flown, Row
@@ -12,6 +13,7 @@ Part = list[Row]  # on x, y and z eight control values
 SCALE = lcm(*(comb(14, k) for k in range(15)))
 FARTHEST = 65536  # no two positions are farther apart on an axis, in millimetres
 REACH_DEPTH = 6   # by parts of this depth speeds are bounded
+MOST_NEAR = 10000  # cues of pairs that are looked at closely
 
 
 def raised(b: Row) -> Row:
@@ -83,3 +85,37 @@ class Nearest:
         self.needed = needed << (14 * self.depth)
         self.at = self.index / 2 ** self.depth
         self.share: float = (self.squared / self.needed) ** 0.5
+
+
+def least_shares(flown: Flown, i: int, j: int) -> list[tuple[float, int]]:
+    """What two drones' share of the distance at which their ellipsoids touch isn't less than in each cue, by the boxes
+    of their curves, with the cue; the least first. Of what both fly again, as in a repeat, there is the first cue."""
+    (r, h), found = flown.show.settings["ellipsoid"], dict[tuple[int, int], tuple[float, int]]()
+    for cue in range(len(flown.cues)):
+        first, second = flown.by_cue[i][cue][1], flown.by_cue[j][cue][1]
+        if (both := (id(first), id(second))) not in found:
+            gap = [max(0, min(b) - max(a), min(a) - max(b)) for a, b in zip(first[:3], second[:3])]
+            found[both] = hypot(gap[0] / r, gap[1] / r, gap[2] / h) / 2, cue
+    return sorted(found.values())
+
+
+def nearest_of(flown: Flown, i: int, j: int, most: int) -> tuple[tuple[float, int, int, int, float], bool]:
+    """Where two drones come nearest, measured by their ellipsoids: their share of the distance at which these touch,
+    the two, the cue and the fraction of it; and whether no cue was left out, where so many are looked at closely."""
+    best = (inf, i, j, 0, 0.0)
+    for number, (least, cue) in enumerate(least_shares(flown, i, j)):
+        if least >= best[0]:
+            break
+        if number == most:
+            return best, False
+        near = nearest_in(flown, i, j, cue)
+        best = (near.share, i, j, cue, near.at) if (near.share, cue) < (best[0], best[3]) else best
+    return best, True
+
+
+def nearest_pairs(flown: Flown) -> tuple[list[tuple[float, int, int, int, float]], int]:
+    """Where each pair comes nearest, as `nearest_of` has it, the nearest first; and of how many pairs cues were left
+    out."""
+    pairs = list(combinations(range(len(flown.names)), 2))
+    found = [nearest_of(flown, i, j, max(1, MOST_NEAR // len(pairs))) for i, j in pairs]
+    return sorted(row for row, _ in found), sum(not is_whole for _, is_whole in found)

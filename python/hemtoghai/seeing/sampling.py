@@ -4,9 +4,11 @@ from __future__ import annotations
 
 from collections.abc import Iterable
 from itertools import combinations
+from math import hypot
 from typing import Any
 
 from hemtoghai.companion import ask, begins, cue_words, place, read_file, seconds, stop, value
+from hemtoghai.geometry.curves import derived
 from hemtoghai.language import choreo
 from hemtoghai.program import Unusable
 from hemtoghai.texts import joined
@@ -14,6 +16,8 @@ from hemtoghai.writing.meetings import Meeting, meetings_of
 
 MOST_PLACES = 48000  # of all drones together, so that a page has about a megabyte
 MOST_PAIRS = 12
+PLACES, LEAST_PLACES = 32, 4  # instants of a cue at which speeds are looked at, and of one of a long show
+MOST_LOOKED = 100000  # of all drones in all cues
 Sample = tuple[float, float, float, float]  # x, y and z in millimetres, and yaw in degrees
 Mark = dict[str, Any]  # a place in which two drones are blocked, as mark_of says it
 Region = list[Any]  # its kind, and its limits in millimetres: x, y and z from, and x, y and z to
@@ -27,6 +31,26 @@ def step_of(flown: choreo.Flown, wanted: int | None, most_places: int = MOST_PLA
     least = -(-flown.milliseconds // most)
     few = [step for step in (10, 20, 25, 50, 100, 200, 250, 500) if step >= least]
     return min(60000, few[0] if few else -(-least // 1000) * 1000)
+
+
+def places_in(flown: choreo.Flown) -> int:
+    """The instants of each cue at which speeds and boxes are looked at."""
+    flights = sum(len({(ms, id(elements)) for ms, elements in row}) for row in flown.by_cue)
+    return max(LEAST_PLACES, min(PLACES, MOST_LOOKED // max(1, flights)))
+
+
+def look(flown: choreo.Flown, drone: int, places: int = PLACES) -> tuple[float, list[tuple[float, float]]]:
+    """A drone's top speed in metres a second, and its box in mm, by so many instants of each cue."""
+    speed = 0.0
+    box: list[list[float]] = [[], [], []]
+    for milliseconds, elements in {(flight[0], id(flight[1])): flight for flight in flown.by_cue[drone]}.values():
+        first = [derived(row, milliseconds) for row in elements[:3]]
+        for at in range(places + 1):
+            u = at / places
+            speed = max(speed, hypot(*(value(row, u) / 1000 for row in first)))
+            for axis in range(3):
+                box[axis].append(value(elements[axis], u))
+    return speed, [(min(row), max(row)) for row in box]
 
 
 def played(rows: list[str], names: list[str]) -> tuple[list[int], list[list[Sample]]]:

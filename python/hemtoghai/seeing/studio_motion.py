@@ -7,17 +7,12 @@ from collections.abc import Sequence
 from typing import Any
 
 from hemtoghai.companion import value
+from hemtoghai.geometry.curves import derived
 from hemtoghai.language import choreo
 from hemtoghai.writing.flyable import MOST
 
 MOST_POINTS = 16000  # of all drones together, but for the two that each cue has
 LEAST_STEP = 20  # milliseconds from one instant to the next, as far as there is room
-
-
-def derived(row: Sequence[float], milliseconds: int) -> list[float]:
-    """The control values of the derivative of a curve by time: of millimetres, in millimetres a second."""
-    degree = len(row) - 1
-    return [1000 * degree * (after - before) / milliseconds for before, after in zip(row, row[1:])] or [0.0]
 
 
 def greatest(rows: Sequence[Sequence[float]], u: float) -> int:

@@ -31,7 +31,6 @@ from functools import partial
 from typing import Any
 
 from hemtoghai import program as proved
-from hemtoghai.commands.why import cures_of, first_places
 from hemtoghai.companion import ask, ask_dynamics, begins, set_tool, speeds_in, stop, without_program
 from hemtoghai.language import choreo
 from hemtoghai.seeing.sampling import blocked_marks, boxes_said, flight_of, Mark, regions_of, rows_of_play, step_of
@@ -40,6 +39,7 @@ from hemtoghai.seeing.studio_places import begun, places_at
 from hemtoghai.streams import NO_ANSWER
 from hemtoghai.writing.dealing import form_lines
 from hemtoghai.writing.flyable import below, MOST as FASTEST, motion_if_known, small
+from hemtoghai.writing.helping import cures_of, first_places
 from hemtoghai.writing.margins import greatest, MOST, with_setting
 from hemtoghai.writing.remedies import written
 from hemtoghai.writing.trials import Trials
@@ -76,7 +76,7 @@ def drone_lines(flown: choreo.Flown) -> dict[str, object]:
             "acts": [[cue.places.get(name, 0) for cue in flown.cues] for name in flown.names]}
 
 
-def lines_of(flown: choreo.Flown, cue: choreo.Cue, names: list[str]) -> list[int]:
+def lines_of(cue: choreo.Cue, names: list[str]) -> list[int]:
     """The lines by which drones fly in a cue: their acts, or the `form` line and their places; else that of the cue."""
     lines = {number for name in names if name in cue.acts for number in (cue.acts[name][0], cue.places[name])}
     return sorted(lines or {cue.number})
@@ -84,7 +84,7 @@ def lines_of(flown: choreo.Flown, cue: choreo.Cue, names: list[str]) -> list[int
 
 def with_lines(flown: choreo.Flown, mark: Mark) -> Mark:
     """A mark with the lines by which both drones fly."""
-    return {**mark, "lines": lines_of(flown, flown.cues[mark["cue"]], [flown.names[k] for k in mark["pair"]])}
+    return {**mark, "lines": lines_of(flown.cues[mark["cue"]], [flown.names[k] for k in mark["pair"]])}
 
 
 def explained(flown: choreo.Flown, text: bytes, program: str, deep: int) -> dict[str, object] | None:
@@ -114,7 +114,7 @@ def regions_said(flown: choreo.Flown, text: bytes, program: str, path: str, deep
     return {"line": said, "fault": {
         "region": region - 1, "drone": flown.names.index(found[2]), "cue": cue - 1,
         "from": begin + flies.milliseconds * part / parts, "to": begin + flies.milliseconds * (part + 1) / parts,
-        "lines": lines_of(flown, flies, [found[2]])}}
+        "lines": lines_of(flies, [found[2]])}}
 
 
 def faults_of(flown: choreo.Flown, text: bytes, program: str) -> Iterator[dict[str, object]]:
