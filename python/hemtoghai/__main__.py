@@ -45,7 +45,7 @@ def needs_checkout(word: str) -> str | None:
     """Why a word isn't carried out here, or None: a release and an installed package have none of `dev`."""
     if not COMMANDS[word].startswith("hemtoghai.dev.") or os.path.isdir(DEV):
         return None
-    return "this is a release, and `%s` is a word of the repository" % word
+    return f"this is a release, and `{word}` is a word of the repository"
 
 
 def main(words: list[str]) -> int:

@@ -44,7 +44,7 @@ class Beside:
                 spec = ModuleSpec(name, Plain(name, file), origin=file, is_package=is_package)
                 spec.has_location = True
                 return spec  # of a package without a folder to look in: all that is found in it is found here
-        raise ModuleNotFoundError("No module named %r" % name, name=name)
+        raise ModuleNotFoundError(f"No module named {name!r}", name=name)
 
 
 def end(words: str) -> None:
@@ -71,7 +71,7 @@ def released_in(folder: str) -> set[str] | None:
         end("MANIFEST.json can't be read: unpack the release anew")
     for name in sorted(own):
         if not os.path.isfile(os.path.join(folder, name)):
-            end("%s is missing: unpack the release anew" % os.path.join(folder, name))
+            end(f"{os.path.join(folder, name)} is missing: unpack the release anew")
     return own
 
 

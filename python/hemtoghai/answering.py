@@ -58,7 +58,7 @@ class Library:
             import ctypes
             self.call = ctypes.CDLL(path).hemtoghai_run
         except (ImportError, OSError, AttributeError) as error:
-            raise Unusable("the library can't be loaded: %s" % error) from None
+            raise Unusable(f"the library can't be loaded: {error}") from None
         self.call.restype = ctypes.c_uint8
         self.call.argtypes = [ctypes.c_char_p, ctypes.c_size_t, ctypes.c_char_p, ctypes.c_size_t,
                               ctypes.c_void_p, ctypes.c_size_t, ctypes.POINTER(ctypes.c_size_t)]
@@ -130,7 +130,7 @@ def choose() -> Runner:
     if by == "process":
         return Process()
     if by:
-        raise Unusable("%s is library or process, and not %r" % (CHOICE, by))
+        raise Unusable(f"{CHOICE} is library or process, and not {by!r}")
     with contextlib.suppress(Unusable):
         found = library()
         if found.proof is not None:

@@ -43,7 +43,7 @@ class Parser(argparse.ArgumentParser):
 
 
 def parser(text: str | None) -> argparse.ArgumentParser:
-    return Parser(prog="%s %s" % (COMMAND, tool_name()),
+    return Parser(prog=f"{COMMAND} {tool_name()}",
                   description=(text or "").replace("./show", COMMAND),
                   formatter_class=argparse.RawDescriptionHelpFormatter)
 
@@ -52,7 +52,7 @@ def whole(what: str, least: int, most: int) -> Callable[[str], int]:
     """What reads a whole number of an option within its limits, which `what` has places for: it is said of others."""
     def read(word: str) -> int:
         if not (word.isdigit() and len(word) < 10 and least <= int(word) <= most):
-            raise argparse.ArgumentTypeError("%s, not %s" % (what % (least, most), word))
+            raise argparse.ArgumentTypeError(f"{what % (least, most)}, not {word}")
         return int(word)
     return read
 
@@ -72,14 +72,14 @@ def read_front(path: str, most: int) -> bytes:
 def read_file(path: str, most: int = texts.LOG) -> bytes:
     """The bytes of a file that has at most so many."""
     data = read_front(path, most)
-    return data if len(data) <= most else stop("%s: more than %d bytes" % (path, most))
+    return data if len(data) <= most else stop(f"{path}: more than {most} bytes")
 
 
 def read_show(path: str) -> bytes:
     """A show's text, to one more byte than it may have."""
     text = read_front(path, choreo.LONGEST_TEXT)
     if len(text) <= choreo.LONGEST_TEXT and choreo.parts_of(text)[2]:
-        stop("%s: a tool reads a show alone, without a marker line" % path)
+        stop(f"{path}: a tool reads a show alone, without a marker line")
     return text
 
 
@@ -91,7 +91,7 @@ def flown_of(path: str) -> tuple[bytes, Flown]:
     except Refused as refusal:
         if refusal.number:
             print_cure(tool_name(), refusal.number, refusal.outcome.split()[0], text)
-        return stop("%s: %s" % (path, refusal), refusal.status)
+        return stop(f"{path}: {refusal}", refusal.status)
 
 
 def words_and_show(reader: argparse.ArgumentParser, words: list[str]) -> tuple[argparse.Namespace, bytes, Flown]:
@@ -138,7 +138,7 @@ def put_show(text: bytes, deep: int = choreo.DEPTH) -> int:
 def known_names(flown: Flown, names: list[str]) -> list[str]:
     """These names, where they are all of drones of the show; another one ends the tool."""
     if strangers := [name for name in names if name not in flown.names]:
-        stop("no drone of the show: %s; it has %s" % (", ".join(strangers), ", ".join(flown.names)), 2)
+        stop(f"no drone of the show: {', '.join(strangers)}; it has {', '.join(flown.names)}", 2)
     return names
 
 
@@ -177,7 +177,7 @@ def missing(program: str | None = None) -> str:
 
 def no_verdict(program: str | None = None) -> str:
     """Why a tool that found nothing wrong with a show doesn't accept it: only the program does."""
-    return "no verdict: %s; what the tool itself looked at is as it should be" % missing(program)
+    return f"no verdict: {missing(program)}; what the tool itself looked at is as it should be"
 
 
 def without_program(text: bytes, program: str | None = None) -> tuple[int, str]:
@@ -214,12 +214,12 @@ def begins(flown: Flown) -> list[int]:
 
 
 def seconds(milliseconds: float) -> str:
-    return "%.3f s" % (milliseconds / 1000)
+    return f"{milliseconds / 1000:.3f} s"
 
 
 def cue_words(cue: choreo.Cue) -> str:
     """Where a cue stands in the text: its line, and the repeats and performs that it is played in."""
-    out = "line %d" % cue.number
+    out = f"line {cue.number}"
     for kind, line, *rest in reversed(cue.within):
         if kind == "repeat":
             out += ", turn %d of %d of the repeat in line %d" % (*rest, line)
@@ -240,7 +240,7 @@ def parts_of_plan(text: bytes, path: str) -> list[PartOfPlan]:
     drones: list[PartOfPlan] = []
     name = None
     if lines[:1] != ["plan 1"]:
-        stop("%s, line 1: a plan begins with `plan 1`; %s compile FILE writes one" % (path, COMMAND))
+        stop(f"{path}, line 1: a plan begins with `plan 1`; {COMMAND} compile FILE writes one")
     for number, line in enumerate(lines[1:], 2):
         words = line.split(" ")
         try:
@@ -261,8 +261,8 @@ def parts_of_plan(text: bytes, path: str) -> list[PartOfPlan]:
             elif drones:
                 drones[-1][3].append((words[0], " ".join(words[1:])))
         except (ValueError, IndexError):
-            stop("%s, line %d: this is no line of a plan: %s" % (path, number, line[:60]))
-    return stop("%s: the plan has no last line `end`" % path)
+            stop(f"{path}, line {number}: this is no line of a plan: {line[:60]}")
+    return stop(f"{path}: the plan has no last line `end`")
 
 
 def decoded(data: bytes, pieces: int) -> tuple[list[int], list[choreo.Segment]] | None:

@@ -145,7 +145,7 @@ class Refused(Exception):
     """A show that a command refuses; `verdict` says why."""
 
     def __init__(self, verdict: Verdict) -> None:
-        super().__init__(verdict.line or "status %d" % verdict.status)
+        super().__init__(verdict.line or f"status {verdict.status}")
         self.verdict = verdict
 
 
@@ -239,7 +239,7 @@ def bytes_of(text: Text) -> bytes:
     try:
         return bytes(memoryview(text))
     except TypeError:
-        raise TypeError("a text is a str or bytes, and not %s" % type(text).__name__) from None
+        raise TypeError(f"a text is a str or bytes, and not {type(text).__name__}") from None
 
 
 # The least and the greatest number of each parameter, as docs/COMMANDS.md has those of the options.
@@ -253,9 +253,9 @@ def within(name: str, number: int) -> int:
     try:
         whole = operator.index(number)
     except TypeError:
-        raise TypeError("%s is a whole number, and not %s" % (called, type(number).__name__)) from None
+        raise TypeError(f"{called} is a whole number, and not {type(number).__name__}") from None
     if not least <= whole <= most:
-        raise ValueError("%s is %d to %d, and not %d" % (called, least, most, whole))
+        raise ValueError(f"{called} is {least} to {most}, and not {whole:d}")
     return whole
 
 
@@ -270,9 +270,9 @@ def verdict_of(words: list[str], show: bytes, whole: bytes, depth: int = DEPTH) 
 
 def asked(command: str, text: Text, depth: int, second: Text = b"", **options: Optional[int]) -> Verdict:
     """The same of a command with a depth and the options that are given, over a show and maybe a second text."""
-    show, words = bytes_of(text), [command, "--depth", "%d" % within("depth", depth)]
+    show, words = bytes_of(text), [command, "--depth", f"{within('depth', depth):d}"]
     for word, number in options.items():
-        words += [] if number is None else ["--" + word, "%d" % within(word, number)]
+        words += [] if number is None else ["--" + word, f"{within(word, number):d}"]
     return verdict_of(words, show, texts.joined(show, bytes_of(second)) if command == "boxes" else show, depth)
 
 

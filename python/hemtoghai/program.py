@@ -95,9 +95,9 @@ def read_program(path: str) -> tuple[bytes, tuple[int, ...]]:
         with open(path, "rb") as file:
             before, data, after = os.fstat(file.fileno()), file.read(MOST_BYTES + 1), os.fstat(file.fileno())
     except OSError as error:
-        raise Unusable("%s: %s" % (path, error.strerror)) from None
+        raise Unusable(f"{path}: {error.strerror}") from None
     if len(data) > MOST_BYTES or looks_of(before) != looks_of(after):
-        raise Unusable("%s is written right now, or is no program" % path)
+        raise Unusable(f"{path} is written right now, or is no program")
     return data, looks_of(before)
 
 
@@ -116,7 +116,7 @@ def in_memory(data: bytes) -> str | None:
         fcntl.fcntl(number, ADD_SEALS, SEALS)
     except OSError:
         return None
-    path = "/proc/%d/fd/%d" % (os.getpid(), number)
+    path = f"/proc/{os.getpid()}/fd/{number}"
     return path if os.access(path, os.X_OK) else None
 
 
@@ -157,14 +157,14 @@ def runs(path: str | None = None) -> str:
         raise Unusable(absent())
     if path != PROGRAM or as_it_is[0]:
         if demanded[0]:
-            raise Unusable("%s isn't the proved program, and --proved runs no other" % path)
+            raise Unusable(f"{path} isn't the proved program, and --proved runs no other")
         return path
     if fault := fault_of_machine():
         raise Unusable(fault)
     file, proved = copy_of(path)
     if demanded[0] and proved is None:
         record = record_path()
-        raise Unusable("%s doesn't say that the program was proved" % os.path.basename(record)
+        raise Unusable(f"{os.path.basename(record)} doesn't say that the program was proved"
                        if os.path.exists(record) else
                        "no record of how this program was built: nothing is known of its proof")
     return file

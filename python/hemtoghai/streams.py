@@ -57,7 +57,7 @@ def tell(who: str, text: str) -> None:
     """Says a line on standard error; where that can't be written nothing is said."""
     try:
         if sys.stderr:
-            print("%s: %s" % (who, shown(text)), file=sys.stderr, flush=True)
+            print(f"{who}: {shown(text)}", file=sys.stderr, flush=True)
     except (OSError, ValueError):
         pass
 
@@ -73,7 +73,7 @@ def fault_of(error: BaseException) -> str:
     at = error.__traceback__
     while at and at.tb_next:
         at = at.tb_next
-    place = " (%s, line %d)" % (os.path.basename(at.tb_frame.f_code.co_filename), at.tb_lineno) if at else ""
+    place = f" ({os.path.basename(at.tb_frame.f_code.co_filename)}, line {at.tb_lineno})" if at else ""
     words = " ".join(str(error).split())[:200]
     return "no answer: %s%s%s" % (type(error).__name__, ": " + words if words else "", place)
 

@@ -92,8 +92,8 @@ def say_carried(made: Dealt, new_line: Callable[[int], int]) -> None:
         say("look at %s of the new text: the turns of a repeat begin there with other drones at the places, so the "
             "names stay" % listed([new_line(number) for number in made.unsure]))
     for number in sorted(made.lost):
-        say("look at the lines after line %d of the new text: the formation there has places for other drones than the "
-            "one before, so from there on each drone flies its own acts" % new_line(number))
+        say(f"look at the lines after line {new_line(number)} of the new text: the formation there has places for "
+            "other drones than the one before, so from there on each drone flies its own acts")
 
 
 def main(words: list[str]) -> int:

@@ -39,8 +39,8 @@ def quantity(counts: Counts, least: int, most: int) -> Callable[[str], int]:
     def read(word: str) -> int:
         value = value_of(counts, word)
         if value is None or not least <= value <= most:
-            raise argparse.ArgumentTypeError("%s is no %s here: write its number with %s right after it" % (
-                word, counts.kind, listed(counts.units)))
+            raise argparse.ArgumentTypeError(f"{word} is no {counts.kind} here: write its number with "
+                                             f"{listed(counts.units)} right after it")
         return value
     return read
 
@@ -56,7 +56,7 @@ COUNT = whole("a show has %d to %d drones", 1, choreo.MOST_DRONES)
 def begun(places: list[Place]) -> int:
     """Writes a show of drones in these places, that rest for a second."""
     lines = [header(NEWEST)]
-    lines += [line_in(NEWEST, "drone", "d%d" % k, *map(micrometres, place), 0) for k, place in enumerate(places, 1)]
+    lines += [line_in(NEWEST, "drone", f"d{k}", *map(micrometres, place), 0) for k, place in enumerate(places, 1)]
     return put_show("\n".join([*lines, line_in(NEWEST, "cue", 1000), "end", ""]).encode())
 
 
@@ -109,7 +109,7 @@ def extended(text: bytes, flown: choreo.Flown, paths: dict[str, Path], milliseco
         if off <= ENOUGH:
             break
     else:
-        stop("no %d curves are within 1 mm of the figure: take a smaller one, or several after one another" % MOST_CUTS)
+        stop(f"no {MOST_CUTS} curves are within 1 mm of the figure: take a smaller one, or several after one another")
     say("%s, %s in %g s: %s, at most %.2f mm off the figure" % (many(len(paths), "drone"), what, time / 1000, many(
         cuts, "cue"), 1000 * off))
     return put_show((b"" if text.endswith(b"\n") else b"\n").join([text, "\n".join([*lines, ""]).encode()]))

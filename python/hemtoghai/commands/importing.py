@@ -66,9 +66,9 @@ def judge(fit: fitting.Fit, head: list[str], form: int, wanted: Axes, bound: Fra
         try:
             status, output = program.ask(["check", "--depth", str(deep)], fit.text(head, form, chosen).encode())
         except program.Unusable as fault:
-            return stop("`check` was not asked: %s" % fault)
+            return stop(f"`check` was not asked: {fault}")
         begin = fit.cues[first].begin
-        print("check, from %.3f s on: %s" % (begin / 1000, output.decode(errors="replace").strip()))
+        print(f"check, from {begin / 1000:.3f} s on: {output.decode(errors='replace').strip()}")
         if status == 5:
             print_why(fit, fit.text(head, form, chosen, begin), wanted, deep)
         elif status:
@@ -130,7 +130,7 @@ def print_why(fit: fitting.Fit, text: str, wanted: Axes, deep: int) -> None:
     if len(found) > 1:
         print("  and %s blocked, of this or other pairs%s" % (
             many(len(found) - 1, "more place"), "" if are_all else "; there may be more"))
-    print("%s why, of the import: its cues and lines, and its larger ellipsoids" % program.COMMAND)
+    print(f"{program.COMMAND} why, of the import: its cues and lines, and its larger ellipsoids")
     print_place(Trials(ask, flown, deep), text.encode().split(b"\n"), first, [])
 
 
@@ -145,7 +145,7 @@ class TooMuch(NamedTuple):
 
 def too_much(fit: fitting.Fit, head: list[str], form: int) -> TooMuch | None:
     if fit.crowded or len(fit.cues) > choreo.MOST_CUES:
-        return TooMuch(FAULTY, "more than %d cues" % choreo.MOST_CUES, max(1, len(fit.cues) / choreo.MOST_CUES))
+        return TooMuch(FAULTY, f"more than {choreo.MOST_CUES} cues", max(1, len(fit.cues) / choreo.MOST_CUES))
     try:
         flown = choreo.flown_of(fit.text(head, form).encode())
         room = flown.room()
@@ -154,7 +154,7 @@ def too_much(fit: fitting.Fit, head: list[str], form: int) -> TooMuch | None:
         choreo.judge_room(flown)
     except choreo.Refused as refusal:
         if refusal.status == FAULTY:
-            return TooMuch(FAULTY, "the import would be refused: %s" % refusal, int(refusal.outcome == "too-large"))
+            return TooMuch(FAULTY, f"the import would be refused: {refusal}", int(refusal.outcome == "too-large"))
         return TooMuch(refusal.status, "%s would take %d bytes of %d, in %s" % (
             name, most, room, many(segments, "segment")), most / room)
     return None
@@ -191,8 +191,8 @@ def stop_for(paths: Paths, options: argparse.Namespace, found: TooMuch, head: li
     except TooLong:
         stop("%s; no tolerance that helps was found in %d comparisons: cut the show into several" % (
             found.words, options.comparisons), found.status)
-    stop("%s; %s" % (found.words, "the show fits with --tolerance %d" % mm if mm else
-                     "no tolerance up to %d mm helps: cut the show into several" % STEPS[-1]), found.status)
+    stop("%s; %s" % (found.words, f"the show fits with --tolerance {mm}" if mm else
+                     f"no tolerance up to {STEPS[-1]} mm helps: cut the show into several"), found.status)
 
 
 # ---- words
@@ -236,8 +236,8 @@ def options_of(words: list[str]) -> argparse.Namespace:
                         help="a CSV file with name,x,y,z a row (metres), added to polynomials; or Crazyswarm2's "
                              "crazyflies.yaml, whose robots are called as the files")
     reader.add_argument("--comparisons", type=numbers((1, 99999999)), default=COMPARISONS, metavar="N",
-                        help="comparisons of pieces with curves after which the search for cues ends; without it %d"
-                             % COMPARISONS)
+                        help="comparisons of pieces with curves after which the search for cues ends; without it "
+                             f"{COMPARISONS}")
     reader.add_argument("--judge", action="store_true", help="write no show: judge the file's own curves")
     add_depth(reader, "of --judge: 0 to 8, without it 6")
     reader.add_argument("files", nargs="+", metavar="FILE", help="one .skyc, or CSV files")
@@ -281,15 +281,15 @@ def say_cues(fit: fitting.Fit, bounds: list[tuple[Fraction, Fraction]]) -> None:
         many(len(bounds), "drone"), fit.end / 1000, many(len(lengths), "cue"), lengths[0], lengths[-1],
         bounds[worst][0], fit.paths[worst].name, max(row[1] for row in bounds)))
     if fit.forced:
-        say("%s could not be fitted, the first at %.3f s: a corner at speed, or too small a tolerance" % (
-            many(len(fit.forced), "cue"), fit.forced[0] / 1000))
+        say(f"{many(len(fit.forced), 'cue')} could not be fitted, the first at {fit.forced[0] / 1000:.3f} s: a corner "
+            "at speed, or too small a tolerance")
     if corners := [(*corner, path.name) for path in fit.paths for corner in path.corners()]:
         jump, when, name = max(corners)
-        say("the file has corners at speed: %s jumps by %.2f m/s at %.3f s; no drone flies that, nor the show" % (
-            name, jump / 1000, when / 1000))
+        say(f"the file has corners at speed: {name} jumps by {jump / 1000:.2f} m/s at {when / 1000:.3f} s; no drone "
+            "flies that, nor the show")
     jump, when, name = max((*row, path.name) for path in fit.paths for row in [(0, 0), *path.jumps()])
     if jump > 1000:
-        say("the file jumps: %s by %.1f mm at %.3f s; its numbers may be rounded" % (name, jump / 1000, when / 1000))
+        say(f"the file jumps: {name} by {jump / 1000:.1f} mm at {when / 1000:.3f} s; its numbers may be rounded")
 
 
 def say_left_out(options: argparse.Namespace, paths: Paths) -> None:
@@ -303,10 +303,10 @@ def say_left_out(options: argparse.Namespace, paths: Paths) -> None:
     adds = "--starts FILE adds it, by a row name,x,y,z in metres for each file, or as Crazyswarm2's crazyflies.yaml"
     if not options.starts and len(paths) > 1 and all(
             max(column) - min(column) <= 1000 for column in zip(*firsts)):  # within a millimetre
-        say("all %d drones begin in one place: polynomials may count from each drone's start. %s" % (len(paths), adds))
+        say(f"all {len(paths)} drones begin in one place: polynomials may count from each drone's start. {adds}")
     elif low := [path.name for path, place in zip(paths, firsts) if abs(place[2]) <= 1000]:
         say("%s at z 0, on the floor: polynomials may count from where the drone hovers, %s" % (
-            "%s begins" % low[0] if len(low) == 1 else "%d drones begin" % len(low),
+            f"{low[0]} begins" if len(low) == 1 else f"{len(low)} drones begin",
             "and these places are on the floor: give their heights" if options.starts else "in x, y and z. " + adds))
 
 
@@ -314,8 +314,8 @@ def head_of(options: argparse.Namespace, bound: Fraction, turned: Fraction, fact
     """The first lines of the show: source, bound and factor, and the settings."""
     names = [os.path.basename(path) for path in options.files]
     source = "".join(it if 32 <= ord(it) < 127 else "?" for it in ", ".join(names[:3]))
-    more = " and %d more" % (len(names) - 3) if len(names) > 3 else ""
-    return ["# Source: %.200s%s, by %s import." % (source, more, program.COMMAND),
+    more = f" and {len(names) - 3} more" if len(names) > 3 else ""
+    return [f"# Source: {source:.200}{more}, by {program.COMMAND} import.",
             "# Bound: at any instant what is sent is at most %.2f mm (%s) from the source." % (
                 bound, "its automatic yaw is left out" if foreign.AUTOMATIC in options.left_out else
                 "yaw %.2f degrees" % turned),
@@ -340,7 +340,7 @@ def main(words: list[str]) -> int:
     if found:
         stop_for(paths, options, found, head, fit.crowded)
     if fit.crowded or len(fit.cues) > MOST_JUDGED:
-        stop("more than %d cues: judge a part of the show, or take a greater --tolerance" % MOST_JUDGED, FAULTY)
+        stop(f"more than {MOST_JUDGED} cues: judge a part of the show, or take a greater --tolerance", FAULTY)
     bounds = fit.bounds()
     bound, turned = max(row[0] for row in bounds), max(row[1] for row in bounds)
     factor, large = grown(options.ellipsoid, bound)

@@ -91,7 +91,7 @@ def read(path: str, kind: str) -> bytes:
             data = file.read(LARGEST[kind] + 1)
     except (OSError, ValueError) as error:
         return stop("%s: %s" % (path, getattr(error, "strerror", None) or error))
-    return data if len(data) <= LARGEST[kind] else stop("%s: a %s of more than %d bytes" % (path, kind, LARGEST[kind]))
+    return data if len(data) <= LARGEST[kind] else stop(f"{path}: a {kind} of more than {LARGEST[kind]} bytes")
 
 
 def lines_of_show(path: str) -> Rows:
@@ -99,7 +99,7 @@ def lines_of_show(path: str) -> Rows:
     lines = read(path, "show").decode("latin-1").split("\n")
     rows = [row for row in (line.partition("#")[0].split() for line in lines) if row]
     if rows[:1] not in ([["choreo", "1"]], [["choreo", "2"]]):
-        stop("%s: a show begins with `choreo 1` or `choreo 2`" % path)
+        stop(f"{path}: a show begins with `choreo 1` or `choreo 2`")
     return rows
 
 
@@ -129,7 +129,7 @@ def setting(show: Rows, word: str, *default: int) -> Sequence[int]:
     read = [value_of(show, it, COUNTED[word]) for it in found[0]]
     values = [value for value in read if value is not None and low <= value <= high]
     if len(found) > 1 or not len(read) == len(values) == len(default):
-        stop("the show's line `%s` is faulty" % word)
+        stop(f"the show's line `{word}` is faulty")
     return values
 
 
@@ -154,7 +154,7 @@ def starts_of(show: Rows) -> list[tuple[str, list[int]]]:
             read = (value_of(show, it, counts) for it, counts in zip(row[2:], [*[MICROMETRES] * 3, TENTHS]))
             values = [value for value in read if value is not None]
             if len(row) != 6 or len(values) != 4:
-                stop("the show's line `%s` is faulty" % " ".join(row)[:60])
+                stop(f"the show's line `{' '.join(row)[:60]}` is faulty")
             out.append((row[1], [*((v + 500) // 1000 for v in values[:3]), values[3]]))
     return out
 
@@ -164,7 +164,7 @@ def trajectory(data: bytes, pieces: int) -> list[Segment]:
         return int.from_bytes(data[at:at + 2], "little", signed=True)
     last, at, time, out = [number(k) for k in (0, 2, 4, 6)], 8, 0, []
     if not 1 <= pieces <= 255 or not 8 <= len(data) <= 4096:
-        raise ValueError("%d bytes for %d segments" % (len(data), pieces))
+        raise ValueError(f"{len(data)} bytes for {pieces} segments")
     for _ in range(pieces):
         header, milliseconds = data[at], int.from_bytes(data[at + 1:at + 3], "little")
         at += 3
@@ -179,7 +179,7 @@ def trajectory(data: bytes, pieces: int) -> list[Segment]:
         out.append(Segment(time, time + milliseconds, axes[:3], header == 0))
         time += milliseconds
     if len(data) != at + 3 or any(data[at:]):
-        raise ValueError("%d bytes for %d segments" % (len(data), pieces))
+        raise ValueError(f"{len(data)} bytes for {pieces} segments")
     return out
 
 
@@ -209,7 +209,7 @@ def drone_of(lines: Rows) -> tuple[Drone, list[int]]:
     data, pieces = bytes_of(digits), int(sizes[3])
     segments = trajectory(data, pieces)
     if int(sizes[1]) != len(data) or not are_packets_of(data, pieces, [(it[0], bytes_of(it[1:])) for it in packets]):
-        raise ValueError("the packets don't bring the bytes of %s" % name)
+        raise ValueError(f"the packets don't bring the bytes of {name}")
     return Drone(name, segments), [int.from_bytes(data[k:k + 2], "little", signed=True) for k in (0, 2, 4, 6)]
 
 
@@ -217,7 +217,7 @@ def plan_of(path: str, starts: list[tuple[str, list[int]]]) -> list[Drone]:
     """The drones of a plan, which has to be whole and one of these drones, each with its name and its segments."""
     lines = read(path, "plan").decode("latin-1").split("\n")
     if lines[0] != "plan 1" or lines[-2:] != ["end", ""]:
-        stop("%s: this is no plan, or not a whole one: it begins with `plan 1` and ends with `end`" % path)
+        stop(f"{path}: this is no plan, or not a whole one: it begins with `plan 1` and ends with `end`")
     words = [line.split(" ") for line in lines[1:-2]]
     edges = [k for k, line in enumerate(words) if line[0] == "drone"] + [len(words)]
     drones = []
@@ -225,11 +225,11 @@ def plan_of(path: str, starts: list[tuple[str, list[int]]]) -> list[Drone]:
         try:
             drones.append(drone_of(words[first:last]))
         except (ValueError, IndexError) as error:
-            stop("%s, from line %d on: %s" % (path, first + 2, error))
+            stop(f"{path}, from line {first + 2} on: {error}")
     if edges[0] or [(drone.name, start) for drone, start in drones] != starts:
-        stop("%s: its drones, or the places where they start, aren't those of the show" % path)
+        stop(f"{path}: its drones, or the places where they start, aren't those of the show")
     if not drones or len({drone.segments[-1].end for drone, _ in drones}) > 1:
-        stop("%s: it has no drones, or they fly for different times" % path)
+        stop(f"{path}: it has no drones, or they fly for different times")
     return [drone for drone, _ in drones]
 
 
@@ -244,7 +244,7 @@ def intervals_of(drones: list[Drone]) -> list[tuple[list[list[Curve]], bool]]:
                 at[k] += 1
             own = segments[at[k]]
             if (own.begin, own.end) != (begin, end) and not own.holds:
-                stop("the plan's drones have no common cues: %s moves from %d to %d ms" % (name, own.begin, own.end))
+                stop(f"the plan's drones have no common cues: {name} moves from {own.begin} to {own.end} ms")
             curves.append(own.axes)
             hold = hold and own.holds
         out.append((curves, hold))
@@ -380,14 +380,14 @@ def certificate_of(path: str) -> Certificate:
     version = 2 if first == "version 2" else 1
     entries = range(-version, version + 1)
     table = [n for n in product(entries, entries, entries) if gcd(*n) == 1]
-    words = {chr(97 + k) if version == 1 else "%02d" % k: n for k, n in enumerate(table)}
+    words = {chr(97 + k) if version == 1 else f"{k:02d}": n for k, n in enumerate(table)}
     head = (first, second)[version - 1]
     if not re.fullmatch("certificate [0-8]", head):
-        stop("error 11 line %d" % version, 11)
+        stop(f"error 11 line {version}", 11)
     trees = Trees(text, version)
     begin = next((at for at, _ in islice(lines_in(text), version, None)), len(text))
     if number := trees.add_all(begin, version + 1, words):
-        stop("error 11 line %d" % number, 11)
+        stop(f"error 11 line {number}", 11)
     return Certificate(int(head[-1]), words, trees, version)
 
 
@@ -421,17 +421,17 @@ def judge(drones: list[Drone], given: Certificate, rulers: dict[str, Ruler]) -> 
         ahead.discard(len(intervals))
         for p, (i, j) in enumerate(pairs):
             number = p * cues + cue
-            name = "pair %s %s cue %d" % (drones[i].name, drones[j].name, cue + 1)
+            name = f"pair {drones[i].name} {drones[j].name} cue {cue + 1}"
             if number >= len(trees):
-                return "missing %s" % name, 12
+                return f"missing {name}", 12
             curves = [(k, intervals[k][0][i], intervals[k][0][j]) for k in ahead]
             ahead = {k for k, first, second in curves if is_right(trees.nodes(number), first, second, depth, rulers)}
             if not ahead:
-                return "refused at tree %d, %s" % (number + 1, name), 12
+                return f"refused at tree {number + 1}, {name}", 12
         reached = ahead
     if len(intervals) - 1 not in reached or len(trees) != cues * len(pairs):
-        return "%d trees for %d pairs and %d cues" % (len(trees), len(pairs), cues), 12
-    return "valid depth %d trees %d" % (depth, len(trees)), 0
+        return f"{len(trees)} trees for {len(pairs)} pairs and {cues} cues", 12
+    return f"valid depth {depth} trees {len(trees)}", 0
 
 
 def main(words: list[str]) -> int:
@@ -451,6 +451,6 @@ if __name__ == "__main__":
     try:
         sys.exit(main(sys.argv[1:]))
     except (MemoryError, RecursionError) as fault:
-        stop("no answer: %s" % type(fault).__name__)
+        stop(f"no answer: {type(fault).__name__}")
     except KeyboardInterrupt:
         os._exit(130)

@@ -38,8 +38,8 @@ def motion_said(options: argparse.Namespace, text: bytes, flown: Flown) -> str:
                              for axis, v in enumerate(row))
     jump, cue, other, where = max((v, -cues[axis], name, "xyz"[axis]) for name, (_, row, cues) in motions.items()
                                   for axis, v in enumerate(row))
-    when = "at the end" if -cue > len(flown.cues) else "in cue %d" % -cue
-    jumps = "the greatest jump of speed is %.2f m/s on %s, of %s, %s" % (jump, where, other, when)
+    when = "at the end" if -cue > len(flown.cues) else f"in cue {-cue}"
+    jumps = f"the greatest jump of speed is {jump:.2f} m/s on {where}, of {other}, {when}"
     return "accelerations are at most %.2f m/s2 on %s, of %s; %s" % (
         force, axis, drone, jumps if jump else "no speed jumps")
 

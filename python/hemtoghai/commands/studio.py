@@ -173,25 +173,25 @@ def server_of(options: argparse.Namespace) -> Server:
         except OSError as error:
             why = "%s: %s" % ("port %d" % wanted if wanted else "no port is free", error.strerror)
             if wanted == usual and not options.port:
-                print("%s: another program listens at the usual port %d: where that is a studio of this file, the text "
-                      "that isn't saved there isn't seen here" % (tool_name(), usual), file=sys.stderr)
+                print(f"{tool_name()}: another program listens at the usual port {usual}: where that is a studio of "
+                      "this file, the text that isn't saved there isn't seen here", file=sys.stderr)
     return stop(why)
 
 
 def look_at(path: str) -> None:
     """Ends the tool where no show can stand there; says so where none does."""
     if path == "-" or os.path.isdir(path):
-        stop("%s: the studio needs a file" % path)
+        stop(f"{path}: the studio needs a file")
     folder = os.path.dirname(os.path.realpath(path))
     if not os.path.isdir(folder):
-        stop("%s: there is no folder %s" % (path, folder))
+        stop(f"{path}: there is no folder {folder}")
     if not os.path.exists(path):
-        print("%s: there is no file %s: the page begins with a template, and Save writes it" % (tool_name(), path),
+        print(f"{tool_name()}: there is no file {path}: the page begins with a template, and Save writes it",
               file=sys.stderr)
     elif not os.path.isfile(path):
-        stop("%s: this is no plain file" % path)
+        stop(f"{path}: this is no plain file")
     elif os.path.getsize(path) > MOST_TEXT or len(read_file(path)) > MOST_TEXT:
-        stop("%s: a show has at most %d bytes" % (path, choreo.LONGEST_TEXT))
+        stop(f"{path}: a show has at most {choreo.LONGEST_TEXT} bytes")
 
 
 def read_words(words: list[str]) -> argparse.Namespace:
@@ -216,7 +216,7 @@ def read_words(words: list[str]) -> argparse.Namespace:
 def serve(server: Server, open_browser: bool) -> None:
     """Answers requests until the studio is ended."""
     studio = server.studio
-    print("%s: %s\n%s: Ctrl-C ends it" % (tool_name(), server.opening.url, tool_name()), flush=True)
+    print(f"{tool_name()}: {server.opening.url}\n{tool_name()}: Ctrl-C ends it", flush=True)
     state = studio.program.state()
     if not state["proved"]:
         print("%s: NOT PROVED: %s" % (tool_name(), state["why"]), file=sys.stderr)
@@ -239,5 +239,5 @@ def main(words: list[str]) -> int:
     for number in (signal.SIGTERM, signal.SIGHUP):  # they end the studio as Ctrl-C does
         signal.signal(number, signal.default_int_handler)
     serve(server_of(options), not options.no_open)
-    print("%s: ended" % tool_name())
+    print(f"{tool_name()}: ended")
     return 0

@@ -28,13 +28,13 @@ LEAST = MOST["jump"] / 1000  # metres a second: what a jump is at most that come
 
 
 def triple(numbers: Iterable[float]) -> str:
-    return ", ".join("%.2f" % v for v in numbers)
+    return ", ".join(f"{v:.2f}" for v in numbers)
 
 
 def print_drones(flown: Flown, motions: dict[str, Motion] | None) -> None:
     room, places = flown.room(), places_in(flown)
-    print("%-16s %6s %6s %6s %8s  %-19s %-19s %-8s %s" % (
-        "drone", "bytes", "of", "pieces", "m/s", "m/s2: x, y, z", "jump m/s: x, y, z", "in cues", "box in mm: x, y, z"))
+    print("drone             bytes     of pieces      m/s  m/s2: x, y, z       jump m/s: x, y, z   in cues  box in mm: "
+          "x, y, z")
     most = 0.0
     for k, (name, data, segments) in enumerate(zip(flown.names, flown.data(), flown.sent)):
         speed, box = look(flown, k, places)
@@ -43,21 +43,21 @@ def print_drones(flown: Flown, motions: dict[str, Motion] | None) -> None:
         where = ", ".join(str(cue) for jump, cue in zip(jumps, cues) if jump > LEAST)
         print("%-16s %6d %6d %6d %8.2f  %-19s %-19s %-8s %s" % (
             name, len(data), room, len(segments), speed, triple(forces) or "-", triple(jumps) or "-", where or "-",
-            ", ".join("%d to %d" % (round(low), round(high)) for low, high in box)))
+            ", ".join(f"{round(low)} to {round(high)}" for low, high in box)))
     if places < PLACES:
-        print("Speeds and boxes are of %d instants of each cue: the show is long." % places)
+        print(f"Speeds and boxes are of {places} instants of each cue: the show is long.")
     if not motions:
         print("Accelerations and jumps were not asked: the program isn't built, or refuses the show.")
     if most > LEAST:
         print("A jump of speed can't be flown: the drone leaves its curve there, and the promise of distance is about")
-        print("curves. Cue %d is the end of the show. `line`, `arc` and a `curve` whose first point isn't `here` begin"
-              % (len(flown.cues) + 1))
+        print(f"curves. Cue {len(flown.cues) + 1} is the end of the show. `line`, `arc` and a `curve` whose first "
+              "point isn't `here` begin")
         print("at speed: use `move`, or `curve` from rest to rest.")
         print("docs/LANGUAGE.md, How fast, says more.")
 
 
 def print_cues(flown: Flown) -> None:
-    print("%5s %12s %12s  %-12s %s" % ("cue", "from", "to", "line", "who does what"))
+    print("  cue         from           to  line         who does what")
     times = begins(flown)
     for k, cue in enumerate(flown.cues):
         by_act: dict[str, list[str]] = {}
@@ -73,7 +73,7 @@ def print_nearest(flown: Flown, most: int) -> None:
     times = begins(flown)
     rows, more = nearest_pairs(flown)
     if more:
-        print("%s may come nearer than is said here: cues were left out, since the show is long." % many(more, "pair"))
+        print(f"{many(more, 'pair')} may come nearer than is said here: cues were left out, since the show is long.")
     for share, i, j, cue, u in rows[:most]:
         at, other = place(flown, i, cue, u), place(flown, j, cue, u)
         words = "%s and %s: %.0f %% of the distance at which their ellipsoids touch, %.0f mm to the side and %.0f " \
@@ -100,7 +100,7 @@ def print_margin(flown: Flown, text: bytes, deep: int) -> None:
         if most is None and word == "ellipsoid":
             return print("no margin: refused even with the least ellipsoid: " + above)
         if most is None:
-            print("refused with %s, even with %s 0: %s" % (others, word, above))
+            print(f"refused with {others}, even with {word} 0: {above}")
         elif word == "ellipsoid":
             print("accepted at depth %d with up to %d %% of the ellipsoid %s, which is %s%s" % (
                 deep, most, in_words(flown, "ellipsoid", r, h), in_words(
@@ -117,8 +117,7 @@ class Bounded(legs.Rules):
     def spend(self, questions: int) -> None:
         self.left -= questions
         if self.left < 0:
-            raise legs.NoWay("looked for by %d questions to `check`, and no further; %s legs goes on" % (
-                MOST_ASKED, COMMAND))
+            raise legs.NoWay(f"looked for by {MOST_ASKED} questions to `check`, and no further; {COMMAND} legs goes on")
 
 
 def print_ways(flown: Flown) -> None:
@@ -133,7 +132,7 @@ def print_ways(flown: Flown) -> None:
                 "as a whole" if leg.whole else "stage by stage", COMMAND))
         except legs.NoWay as why:
             begin = "no" if rules.left >= 0 else "no answer on a"
-            print("%s way %s with pads below the first places: %s" % (begin, name, why))
+            print(f"{begin} way {name} with pads below the first places: {why}")
 
 
 def main(words: list[str]) -> int:
@@ -146,7 +145,7 @@ def main(words: list[str]) -> int:
     reader.add_argument("--program", metavar="PATH", help="the program to ask, if not the one that is built here")
     options, text, flown = words_and_show(reader, words)
     settings = flown.show.settings
-    print("%s, %s, %s" % (many(len(flown.names), "drone"), many(len(flown.cues), "cue"), seconds(flown.milliseconds)))
+    print(f"{many(len(flown.names), 'drone')}, {many(len(flown.cues), 'cue')}, {seconds(flown.milliseconds)}")
     print("memory %d at offset %d, trajectory %d, ellipsoid %d mm to the side and %d mm up and down" % (
         *settings["memory"], *settings["trajectory"], *settings["ellipsoid"]))
     if any(settings["stray"] + settings["late"]):

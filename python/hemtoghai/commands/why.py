@@ -46,7 +46,7 @@ def print_counts(deep: int, found: list[Meeting], more: str) -> None:
     caused = sum(it.cause is not None for it in found)
     print("Of %s, %d too near, %d apart but along no direction%s." % (
         many(len(found), "place"), touching, len(found) - touching - caused,
-        ", %d apart but for `stray` or `late`" % caused if caused else ""))
+        f", {caused} apart but for `stray` or `late`" if caused else ""))
     print("Cues are counted with repeats and figures written out.\n")
 
 
@@ -60,13 +60,13 @@ def explain_separation(flown: Flown, text: bytes, deep: int, most: int) -> int:
     if not found:
         return 0
     print_counts(deep, found, "" if are_all else (
-        "More are blocked: these are the first %d, by pair and then by cue." % len(found)))
+        f"More are blocked: these are the first {len(found)}, by pair and then by cue."))
     found.sort(key=lambda it: (it.cue, it.share))
     groups, trials = alike(flown, found), Trials(ask, flown, deep)
     for group in groups[:most]:
         print_place(trials, lines, group[0], [it.cue for it in group[1:]])
     if len(groups) > most:
-        print("and %d more: --most N shows them" % (len(groups) - most))
+        print(f"and {len(groups) - most} more: --most N shows them")
     if trials.may_ask:
         print_together(trials, groups)
     return len(found)
@@ -78,10 +78,10 @@ def print_together(trials: Trials, groups: list[list[Meeting]]) -> None:
         together = [(it.i, it.j) for group in groups for it in group if it.cue == cue]
         remedy = layers(trials, cue, together) if 1 < len(together) <= MOST_CURES else None
         if remedy:
-            print("What helps all of cue %d at once (%s more):" % (cue + 1, seconds(remedy.takes)))
+            print(f"What helps all of cue {cue + 1} at once ({seconds(remedy.takes)} more):")
             print("    " + remedy.words)
         for line in crossing_forms(trials.flown, cue) if len(together) > 1 else []:
-            print("Line %d forms a formation whose ways cross: %s deal deals its places anew." % (line.number, COMMAND))
+            print(f"Line {line.number} forms a formation whose ways cross: {COMMAND} deal deals its places anew.")
 
 
 def crossing_forms(flown: Flown, cue: int) -> list[choreo.Line]:
@@ -111,7 +111,7 @@ def explain_room(flown: Flown) -> None:
             often, taken = kinds.get(kind, (0, 0))
             kinds[kind] = often + 1, taken + len(choreo.segment_bytes(milliseconds, elements))
         for kind, (often, taken) in sorted(kinds.items(), key=lambda it: -it[1][1])[:6]:
-            print("  %5d bytes in %s: %s" % (taken, many(often, "segment"), kind))
+            print(f"  {taken:5d} bytes in {many(often, 'segment')}: {kind}")
     print("What saves most: in place of `move X Y Z YAW`, 14 bytes an axis, from (X0, Y0, Z0)")
     print("`curve X0 Y0 Z0 X Y Z X Y Z YAW` is from rest to rest too, with 6. docs/LANGUAGE.md, What a cue costs.")
 
@@ -130,11 +130,11 @@ def cured(text: bytes, deep: int, flown: Flown | None = None) -> tuple[bytes, li
         for remedy in cures_of(trials, cue, pairs):
             if (new := written(text, flown, cue, remedy)) is not None:
                 text = new
-                done.append("cue %d: %s (%s more)" % (cue + 1, remedy.words, seconds(remedy.takes)))
+                done.append(f"cue {cue + 1}: {remedy.words} ({seconds(remedy.takes)} more)")
                 break
         else:
             return text, done, "%s and %s in cue %d" % (*(flown.names[k] for k in pairs[0]), cue + 1)
-    return text, done, "more than %d places" % MOST_CURES
+    return text, done, f"more than {MOST_CURES} places"
 
 
 def write_cured(path: str, text: bytes, flown: Flown, deep: int, force: bool) -> None:
@@ -144,7 +144,7 @@ def write_cured(path: str, text: bytes, flown: Flown, deep: int, force: bool) ->
         new, done, left = cured(text, deep, flown)
         before, after = flown.milliseconds, choreo.flown_of(new).milliseconds if done else flown.milliseconds
     except choreo.Refused as refusal:
-        stop("the cured show is refused for another reason: %s" % refusal)
+        stop(f"the cured show is refused for another reason: {refusal}")
     for line in done:
         print("cured in " + line)
     if left:
@@ -153,7 +153,7 @@ def write_cured(path: str, text: bytes, flown: Flown, deep: int, force: bool) ->
     if left or not done or answer and answer[0]:
         print("no file is written: the show isn't cured%s" % (", and `check` says " + answer[1] if answer else ""))
         return
-    print("the show lasts %s, before %s" % (seconds(after), seconds(before)))
+    print(f"the show lasts {seconds(after)}, before {seconds(before)}")
     outputs.write_all({path: new}, force)
     print("%s: %s" % (shown(path), answer[1] if answer else missing()))
 
@@ -189,6 +189,5 @@ def main(words: list[str]) -> int:
         if options.cured:
             print("no file is written: there is nothing to cure")
     elif answer[0] != own:
-        stop("check ends with %d and this tool with %d: one of them is wrong; please report the show"
-             % (answer[0], own))
+        stop(f"check ends with {answer[0]} and this tool with {own}: one of them is wrong; please report the show")
     return own

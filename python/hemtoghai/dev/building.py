@@ -234,7 +234,7 @@ def prove(below: Crates, most: int, rooms: str, watch: Watch) -> None:
                 if process.returncode:
                     with open(os.path.join(room, "log"), errors="replace") as log:
                         complain(log.read())
-                    stop("%s was not proved" % crate)
+                    stop(f"{crate} was not proved")
                 free.append(room)
                 watch.progress.end(crate)
                 done.add(crate)
@@ -265,7 +265,7 @@ def build(words: list[str], files: list[str]) -> None:
 
 def build_all(below: Crates, words: list[str], files: list[str]) -> None:
     most, before, is_first = side_by_side(), stamp(below), not os.path.exists(PROGRAM)
-    say("proving and building the program; the first time takes many minutes, %d crates at a time" % most)
+    say(f"proving and building the program; the first time takes many minutes, {most} crates at a time")
     for file in (PROGRAM, PROGRAM + RECORD):  # so that the last line of the proof is written, even of one that was kept
         with contextlib.suppress(FileNotFoundError):
             os.remove(file)

@@ -231,15 +231,15 @@ def quoted(text: str) -> str:
 def fish(words: list[Word]) -> str:
     """The completion for Fish."""
     front, before = ["help", "version"], [it[2:] for it in BEFORE]
-    rows = ["    complete -c $name -n '__show_is \"\"' -l %s" % it for it in [*front, *before]]
+    rows = [f"    complete -c $name -n '__show_is \"\"' -l {it}" for it in [*front, *before]]
     for it in words:
-        rows.append("    complete -c $name -n '__show_is \"\"' -a %s -d %s" % (it.name, quoted(it.text)))
+        rows.append(f"    complete -c $name -n '__show_is \"\"' -a {it.name} -d {quoted(it.text)}")
         if it.first:
-            rows.append("    complete -c $name -n '__show_first %s' -f -a '%s'" % (it.name, " ".join(it.first)))
+            rows.append(f"    complete -c $name -n '__show_first {it.name}' -f -a '{' '.join(it.first)}'")
         for option in it.options:
-            takes = " -x -a '%s'" % " ".join(option.choices) if option.choices else " -r" * bool(option.number)
-            rows.append("    complete -c $name -n '__show_is %s' -l %s%s -d %s" % (
-                it.name, option.name[2:], takes, quoted(option.text.replace("`", ""))))
+            takes = f" -x -a '{' '.join(option.choices)}'" if option.choices else " -r" * bool(option.number)
+            rows.append(f"    complete -c $name -n '__show_is {it.name}' -l {option.name[2:]}{takes} -d "
+                        f"{quoted(option.text.replace('`', ''))}")
     return FISH % (" ".join(BEFORE), "\n".join(rows))
 
 

@@ -56,7 +56,7 @@ def cause_of(command: str, error: OSError) -> str:
     """Why a command can't be run."""
     if command == "rt" and isinstance(error, FileNotFoundError):
         return "no rt on the PATH: the Rattle toolchain is needed to build the library"
-    return "%s: %s" % (command, error.strerror)
+    return f"{command}: {error.strerror}"
 
 
 def said(*words: str, place: str = TOP) -> str:
@@ -116,7 +116,7 @@ def rt_as_module() -> Any:
     """rt as a module: no command of it makes a static library over what `rt ci` has proved and kept."""
     loader = importlib.machinery.SourceFileLoader("rt", os.path.join(toolchain(), "bin", "rt"))
     if (spec := importlib.util.spec_from_loader("rt", loader)) is None:
-        stop("%s can't be read as a module" % loader.path)
+        stop(f"{loader.path} can't be read as a module")
     module = importlib.util.module_from_spec(spec)
     loader.exec_module(module)
     return module
@@ -155,9 +155,9 @@ def over_built(place: str) -> tuple[str, str]:
     `rt check` keeps what it proved function by function, and `rt lib` takes that up."""
     below = [crate for crate in records.crates_below(CRATE) if crate != CRATE]
     built = sum(os.path.exists(os.path.join(records.CRATES, crate, building.LIBRARY, "stamp")) for crate in below)
-    watched("rt", "check", place=place, doing="proving crates/%s over %s, of which %d are built here; where they changed "
-            "they are proved first. Some minutes, if all are; ended and run again it goes on" % (
-                CRATE, many(len(below), "crate"), built))
+    watched("rt", "check", place=place, doing=f"proving crates/{CRATE} over {many(len(below), 'crate')}, of which "
+                                              f"{built} are built here; where they changed they are proved first. Some "
+                                              "minutes, if all are; ended and run again it goes on")
     return os.path.join(place, "out", ARCHIVE), watched("rt", "lib", place=place, doing="making the archive")
 
 
@@ -167,7 +167,7 @@ def prove(room: str, only_kept: bool = False) -> tuple[str, str]:
     try:
         made = over_kept(room)
     except (AttributeError, ImportError, TypeError) as error:
-        print("this toolchain keeps otherwise: %s" % error, file=sys.stderr)
+        print(f"this toolchain keeps otherwise: {error}", file=sys.stderr)
         made = None
     if made is None and only_kept:
         raise SystemExit(NOT_KEPT)
@@ -189,7 +189,7 @@ def need_stateless(archive: str) -> None:
     toolchain's object has one byte of them, of which the address alone is used."""
     lines = [line.split() for line in said("size", "--format=sysv", archive).splitlines()]
     if any(len(line) > 1 and VARIABLES.match(line[0]) and line[1] != "0" for line in lines):
-        stop("%s has variables of its own" % archive)
+        stop(f"{archive} has variables of its own")
 
 
 def one_object(room: str, archives: list[str]) -> str:
@@ -198,7 +198,7 @@ def one_object(room: str, archives: list[str]) -> str:
     said("ld", "-r", "--whole-archive", *archives, "-o", whole)
     said("objcopy", *("--keep-global-symbol=" + name for name in NAMES), whole)
     if extra := names_of(whole, "--undefined-only") - WANTED:
-        stop("the objects need more from outside than is allowed: %s" % " ".join(sorted(extra)))
+        stop(f"the objects need more from outside than is allowed: {' '.join(sorted(extra))}")
     return whole
 
 
@@ -206,7 +206,7 @@ def need_names(file: str, *flags: str) -> None:
     """Ends the tool if a library exports other names than its own."""
     shown = names_of(file, "--defined-only", *flags) - {"HEMTOGHAI_0"}
     if shown != set(NAMES):
-        stop("%s exports other names: %s" % (file, " ".join(sorted(shown))))
+        stop(f"{file} exports other names: {' '.join(sorted(shown))}")
 
 
 def make_libraries(room: str, version: str, archives: list[str]) -> dict[str, bytes]:
@@ -228,7 +228,7 @@ def make(version: str, only_kept: bool = False) -> tuple[dict[str, bytes], str]:
         need_stateless(archive)
         heap = os.path.join(toolchain(), "c", "liblibc_c.a")  # which takes memory from malloc
         if not os.path.exists(heap):
-            stop("%s is not there" % heap)
+            stop(f"{heap} is not there")
         linked = os.path.join(room, "linked")
         os.mkdir(linked)
         made = make_libraries(linked, version, [archive, heap])

@@ -24,7 +24,7 @@ from hemtoghai.program import TOP
 
 def rows_of(document: str, head: str) -> list[list[str]]:
     """The rows of the table of a document that has this head; ValueError where it has none."""
-    _, found, rest = ("\n" + document).partition("\n%s\n" % head)
+    _, found, rest = ("\n" + document).partition(f"\n{head}\n")
     rows = []
     for line in rest.split("\n") if found else ():
         if not line.startswith("|"):
@@ -47,16 +47,16 @@ def options_of(word: Word) -> list[str]:
     rows = [f"{it.name} {it.number}".strip() for it in word.options if it.name != "--help"]
     firsts = [f"The next word is {' or '.join(word.first)}."] if word.first else []
     listed = ", ".join("\\fB%s\\fR" % row.replace("-", "\\-") for row in rows)
-    return [*firsts, *[".br", "Options: %s." % listed] * bool(rows)]
+    return [*firsts, *[".br", f"Options: {listed}."] * bool(rows)]
 
 
 def page(version: str) -> str:
     with open(os.path.join(TOP, "docs", "COMMANDS.md"), encoding="utf-8") as file:
         document = file.read()
-    out = ['.TH SHOW 1 "" "hemtoghai %s" "Hemtoghai"' % version, ".SH NAME",
+    out = [f'.TH SHOW 1 "" "hemtoghai {version}" "Hemtoghai"', ".SH NAME",
            "show \\- compiles and judges shows of drones", ".SH SYNOPSIS"]
     for form in table.FORMS.values():
-        out += [".B ./show %s" % roff(form), ".br"]
+        out += [f".B ./show {roff(form)}", ".br"]
     for option in ("proved COMMAND ..", "unproved COMMAND ..", "version"):
         out += [".B ./show \\-\\-" + option, ".br"]
     out[-1] = ".SH COMMANDS"
@@ -64,7 +64,7 @@ def page(version: str) -> str:
         second = table.SECOND.get(form.split()[0])
         out += [".TP", ".B " + roff(form), roff(what[0].upper() + what[1:]) + "."]
         if second:
-            out.append("Link frames follow the show." if second == "frames" else "The second part: %s." % second)
+            out.append("Link frames follow the show." if second == "frames" else f"The second part: {second}.")
         if form.split()[0] in WITH_JSON:
             out.append("With \\fB\\-\\-json\\fR it answers in one line of JSON.")
     words = {it.name: it for it in all_words()}
@@ -73,12 +73,12 @@ def page(version: str) -> str:
         out += [".TP", ".B " + word, roff(what[0].upper() + what[1:]) + ".", *options_of(words[word])]
     out += [".SH OPTIONS", "Options may stand before and behind the files."]
     for option, number, without in rows_of(document, "| Option | Number | Without it |"):
-        out += [".TP", roff(option), "%s. Without it: %s." % (roff(number[0].upper() + number[1:]), roff(without))]
+        out += [".TP", roff(option), f"{roff(number[0].upper() + number[1:])}. Without it: {roff(without)}."]
     out.append(".SH EXIT STATUS")
     for status, said, happened, do in rows_of(document, "| Status | Output | What happened | What to do |"):
-        out += [".TP", "%s: %s" % (roff(status), roff(said)), roff(happened[:1].upper() + happened[1:]) + "."]
+        out += [".TP", f"{roff(status)}: {roff(said)}", roff(happened[:1].upper() + happened[1:]) + "."]
         if do:
-            out.append("What to do: %s." % roff(do))
+            out.append(f"What to do: {roff(do)}.")
     out += [".SH SEE ALSO", "docs/COMMANDS.md, docs/LANGUAGE.md and docs/TOOLS.md of the release."]
     return "\n".join(out) + "\n"
 

@@ -71,7 +71,7 @@ def judged_record(changed: bool) -> Record:
         stop("the program isn't the one of these sources: ./show check FILE builds it")
     record = program.record_of(program.PROGRAM + program.RECORD)
     if not re.match("logic=proved ", record["rests_on"]):
-        stop("the record of the build hasn't its last line: remove %s, and build it anew" % PROGRAM)
+        stop(f"the record of the build hasn't its last line: remove {PROGRAM}, and build it anew")
     if git("status", "--porcelain") and not changed:
         stop("files differ from the commit; --changed releases them all the same, and the manifest says so")
     return record
@@ -128,11 +128,11 @@ def archive(name: str, contents: Contents, links: Links, when: int) -> bytes:
     whole = io.BytesIO()
     with tarfile.open(fileobj=whole, mode="w", format=tarfile.USTAR_FORMAT) as tar:
         for path, data, mode in contents:
-            entry = tarfile.TarInfo("%s/%s" % (name, path))
+            entry = tarfile.TarInfo(f"{name}/{path}")
             entry.size, entry.mode, entry.mtime = len(data), mode, when
             tar.addfile(entry, io.BytesIO(data))
         for path, target in links:
-            entry = tarfile.TarInfo("%s/%s" % (name, path))
+            entry = tarfile.TarInfo(f"{name}/{path}")
             entry.type, entry.linkname, entry.mode, entry.mtime = tarfile.SYMTYPE, target, 0o777, when
             tar.addfile(entry)
     packed = gzip.compress(whole.getvalue(), mtime=0)
@@ -140,7 +140,7 @@ def archive(name: str, contents: Contents, links: Links, when: int) -> bytes:
 
 
 def print_made(path: str, count: int, data: bytes) -> None:
-    print("%s: %d files, %d bytes, sha256 %s" % (path, count, len(data), program.digest_of(data)))
+    print(f"{path}: {count} files, {len(data)} bytes, sha256 {program.digest_of(data)}")
 
 
 def lacking() -> list[str]:
@@ -169,7 +169,7 @@ def wheel_of(version: str, contents: Contents) -> bytes:
                               env={**os.environ, "SOURCE_DATE_EPOCH": git("log", "-1", "--format=%ct")})
         path = os.path.join(out, WHEEL % version)
         if done.returncode or not os.path.exists(path):
-            stop("%s\nsetuptools made no wheel" % done.stdout.decode(errors="replace").strip())
+            stop(f"{done.stdout.decode(errors='replace').strip()}\nsetuptools made no wheel")
         return pathlib.Path(path).read_bytes()
 
 
@@ -214,7 +214,7 @@ def main(words: list[str]) -> int:
     for it, (count, data) in made.items():
         print_made(os.path.join(options.out, it), count, data)
     if missing:
-        print("no wheel was made: %s has no %s (python3-setuptools and python3-wheel of Debian)" % (
-            sys.executable, " and no ".join(missing)))
+        print(f"no wheel was made: {sys.executable} has no {' and no '.join(missing)} (python3-setuptools and "
+              "python3-wheel of Debian)")
     print("program sha256 %s\ntoolchain %s\nproof: %s" % (record["sha256"], record["toolchain"], record["rests_on"]))
     return 0

@@ -18,7 +18,7 @@ def fault(words: list[str]) -> str | None:
     if os.path.exists(program.MANIFEST):
         return "a release has no sources to run"
     if words[0] in OF_PROOF:
-        return "%s is about what is proved: leave --unproved out" % words[0]
+        return f"{words[0]} is about what is proved: leave --unproved out"
     options = [word.partition("=")[0] for word in words[1:]]  # a tool takes a short form of an option too
     if any(len(option) > 3 and name.startswith(option) for option in options for name in RADIO):
         return "no real drone is flown by a program without a proof: leave --unproved out"

@@ -27,7 +27,7 @@ from hemtoghai.streams import shown
 # A segment is uploaded as 132 bytes, its duration and 32 coefficients as floats, into 4,096 bytes.
 MOST_PIECES = 31
 SCALES = [Fraction(1, 1000)] * 3 + [PI / 1800]
-HEAD = "Duration," + ",".join("%s^%d" % (axis, k) for axis in ("x", "y", "z", "yaw") for k in range(8))
+HEAD = "Duration," + ",".join(f"{axis}^{k}" for axis in ("x", "y", "z", "yaw") for k in range(8))
 
 
 def polynomial(row: Row, scale: Fraction, duration: Fraction) -> list[Fraction]:

@@ -54,16 +54,16 @@ class Counter(Budget):
     """Counts things, up to a limit."""
 
     def __init__(self, most: int, things: str = "numbers") -> None:
-        super().__init__(most, Unreadable("more than %d %s" % (most, things)))
+        super().__init__(most, Unreadable(f"more than {most} {things}"))
 
     def number(self, word: str, tens: int = 0) -> Fraction:
         """A number as it is written, times a power of ten; it counts the more the longer it is."""
         found = NUMBER.fullmatch(word) if len(word) <= 60 else None
         if not found:
-            raise Unreadable("%.20r is no number" % word)
+            raise Unreadable(f"{word!r:.20} is no number")
         exponent = int(found[3][1:]) if found[3] else 0
         if abs(exponent) > LARGEST_EXPONENT:
-            raise Unreadable("%.20r is beyond what is read: an exponent has at most two digits" % word)
+            raise Unreadable(f"{word!r:.20} is beyond what is read: an exponent has at most two digits")
         whole, _, rest = found[2].partition(".")
         digits, places = int(found[1] + whole + rest), len(rest) - exponent - tens
         value = Fraction(digits, TENS[places]) if places > 0 else Fraction(digits * TENS[-places])
@@ -75,7 +75,7 @@ class Counter(Budget):
         try:
             return [self.number(cell, ten) for cell, ten in zip(cells, tens)]
         except Unreadable as error:
-            raise Unreadable("line %d: %s" % (line, error))
+            raise Unreadable(f"line {line}: {error}")
 
 
 def shortest(rows: Iterable[Row]) -> list[Row]:
@@ -95,9 +95,9 @@ def name_of(word: str, taken: set[str]) -> str:
 def checked(name: str, pieces: list[Piece]) -> Path[Fraction]:
     """A path of these pieces, or a refusal where no drone can be there or get there."""
     if pieces[0][0] < 0:
-        raise Unreadable("%s begins before the time 0" % name)
+        raise Unreadable(f"{name} begins before the time 0")
     if pieces[-1][1] > LONGEST:
-        raise Unreadable("%s flies for more than %d s" % (name, LONGEST // 1000))
+        raise Unreadable(f"{name} flies for more than {LONGEST // 1000} s")
     for begin, end, rows in pieces:
         if end - begin < SHORTEST:
             raise Unreadable("%s has two instants less than a microsecond apart at %.6f s" % (name, begin / 1000))
@@ -121,15 +121,15 @@ def field(node: object, key: str, kind: type[Kind], where: str, default: Kind | 
     """What an object has under a word."""
     found = node.get(key, default) if isinstance(node, dict) else None
     if found is None or not isinstance(found, kind):
-        raise Unreadable("%s has no %s" % (where, key) if found is None else
-                         "%s: %s is no %s" % (where, key, KINDS[kind]))
+        raise Unreadable(f"{where} has no {key}" if found is None else
+                         f"{where}: {key} is no {KINDS[kind]}")
     return found
 
 
 def numbers_of(node: object, count: int, where: str, words: str) -> Row:
     """So many numbers in a list; these words say what it should be."""
     if not (isinstance(node, list) and len(node) == count and all(isinstance(v, Fraction) for v in node)):
-        raise Unreadable("%s: %s" % (where, words))
+        raise Unreadable(f"{where}: {words}")
     return node
 
 
@@ -158,7 +158,7 @@ class Archive:
         try:
             self.file = zipfile.ZipFile(io.BytesIO(data))
         except (ValueError, NotImplementedError, OverflowError, struct.error, zipfile.BadZipFile, OSError) as error:
-            raise Unreadable("no zip: %s" % error)
+            raise Unreadable(f"no zip: {error}")
         names = self.file.namelist()
         if len(set(names)) < len(names):
             raise Unreadable(f"the archive has two members {next(it for it in names if names.count(it) > 1):.60}")
@@ -171,11 +171,11 @@ class Archive:
         try:
             about = self.file.getinfo(where)
         except KeyError:
-            raise Unreadable("the archive has no member %.60s" % where)
+            raise Unreadable(f"the archive has no member {where:.60}")
         self.left -= about.file_size
         if self.left < 0 or about.compress_type not in (zipfile.ZIP_STORED, zipfile.ZIP_DEFLATED):
-            raise Unreadable("%.60s is larger than %d bytes, or packed in an unknown way" % (
-                where, self.left + about.file_size))
+            raise Unreadable(f"{where:.60} is larger than {self.left + about.file_size} bytes, or packed in an unknown "
+                             "way")
         try:
             return self.file.read(about)
         except (ValueError, EOFError, RuntimeError, NotImplementedError, OverflowError, struct.error, zlib.error,
@@ -208,13 +208,13 @@ class Archive:
                     node = node[int(key)]
                 else:
                     node = field(node, key, object, base)
-        raise Unreadable("%s: references that go round" % base)
+        raise Unreadable(f"{base}: references that go round")
 
 
 def limit_drones(count: int) -> None:
     """Refuses more drones than a show may have."""
     if count > MOST_DRONES:
-        raise Unreadable("%d drones, and a show has at most %d" % (count, MOST_DRONES))
+        raise Unreadable(f"{count} drones, and a show has at most {MOST_DRONES}")
 
 
 LEFT_OUT = {"lights": "lights", "pyro": "pyrotechnics"}  # what a drone's settings may have, and no show has
@@ -228,7 +228,7 @@ def read_skyc(path: str, left_out: dict[str, int]) -> list[Path[Fraction]]:
     show = archive.text("show.json")
     version = field(show, "version", Fraction, "show.json")
     if version != 1:
-        raise Unreadable("show.json is of version %s, and 1 is known" % version)
+        raise Unreadable(f"show.json is of version {version}, and 1 is known")
     drones = field(archive.follow(field(show, "swarm", dict, "show.json")), "drones", list, "the swarm")
     if not drones:
         raise Unreadable("show.json has no drone")
@@ -236,11 +236,12 @@ def read_skyc(path: str, left_out: dict[str, int]) -> list[Path[Fraction]]:
     taken: set[str] = set()
     found: dict[str, Path[Fraction]] = {}
     for k, drone in enumerate(drones, 1):
-        settings = archive.follow(field(archive.follow(drone), "settings", dict, "drone %d" % k))
-        word = field(settings, "name", str, "drone %d" % k, "drone %d" % k)
+        where = f"drone {k}"
+        settings = archive.follow(field(archive.follow(drone), "settings", dict, where))
+        word = field(settings, "name", str, where, where)
         if word in found:
-            raise Unreadable("two drones have the name %.40r" % word)
-        found[word] = skyc_path(archive, "drone %d, %.40r" % (k, word), settings, name_of(word, taken))
+            raise Unreadable(f"two drones have the name {word!r:.40}")
+        found[word] = skyc_path(archive, f"{where}, {word!r:.40}", settings, name_of(word, taken))
         for what in left_out_of(archive, settings):
             left_out[what] = left_out.get(what, 0) + 1
     return list(found.values())
@@ -262,13 +263,13 @@ def skyc_path(archive: Archive, where: str, settings: object, name: str) -> Path
     trajectory = archive.follow(field(settings, "trajectory", dict, where))
     version = field(trajectory, "version", Fraction, where, Fraction(1))
     if version != 1:
-        raise Unreadable("%s: a trajectory of version %s, and 1 is known" % (where, version))
+        raise Unreadable(f"{where}: a trajectory of version {version}, and 1 is known")
     late = field(trajectory, "takeoffTime", Fraction, where, Fraction(0)) * 1000
     listed = field(trajectory, "points", list, where)
     archive.flown.take(4 * len(listed))
     points = [point_of(point, where) for point in listed]
     if not points:
-        raise Unreadable("%s: a trajectory without a point" % where)
+        raise Unreadable(f"{where}: a trajectory without a point")
     pieces: list[Piece] = []
     for (begin, before, _), (end, after, inner) in zip(points, points[1:]):
         if end < begin or (end == begin and before != after):
@@ -292,7 +293,7 @@ def skyc_path(archive: Archive, where: str, settings: object, name: str) -> Path
 def point_of(point: object, where: str) -> tuple[Fraction, Row, list[Row]]:
     """A point of a trajectory: milliseconds, the place, and the points between it and the one before, none or two."""
     if not (isinstance(point, list) and len(point) in (2, 3) and isinstance(point[0], Fraction)):
-        raise Unreadable("%s: a point isn't a time, a place and inner points" % where)
+        raise Unreadable(f"{where}: a point isn't a time, a place and inner points")
     inner = point[2] if len(point) == 3 else []
     if not isinstance(inner, list) or len(inner) not in (0, 2):
         raise Unreadable("%s: inner points at %.3f s, and none or two are known" % (where, point[0]))
@@ -325,7 +326,7 @@ def limited(path: str) -> bytes:
     """The bytes of a file, if they aren't too many."""
     data = read_front(path, LARGEST)
     if len(data) > LARGEST:
-        raise Unreadable("more than %d bytes" % LARGEST)
+        raise Unreadable(f"more than {LARGEST} bytes")
     return data
 
 
@@ -351,7 +352,7 @@ class Table:
         try:
             text = data.decode("utf-8-sig")
         except UnicodeDecodeError as error:
-            raise Unreadable("no CSV: %s" % error)
+            raise Unreadable(f"no CSV: {error}")
         rows = self.rows_of(text)
         first = next(rows, None)
         self.head: list[str] = []
@@ -377,7 +378,7 @@ class Table:
                     cells.pop()
                 yield line, cells if separator == "," else [with_point(cell) for cell in cells]
         except csv.Error as error:
-            raise Unreadable("no CSV: %s" % error)
+            raise Unreadable(f"no CSV: {error}")
 
 
 OVER = 105  # what the binomials of seven divide
@@ -404,10 +405,10 @@ def read_polynomials(table: Table, start: Row, counter: Counter) -> list[Piece]:
     for line, cells in table.rows:
         if len(cells) != 33:
             counter.numbers(line, cells, [0] * len(cells))
-            raise Unreadable("line %d: %d numbers, and 33 are wanted, a duration first" % (line, len(cells)))
+            raise Unreadable(f"line {line}: {len(cells)} numbers, and 33 are wanted, a duration first")
         row = counter.numbers(line, cells, POLYNOMIAL)
         if row[0] <= 0:
-            raise Unreadable("line %d: a duration of %s s" % (line, cells[0]))
+            raise Unreadable(f"line {line}: a duration of {cells[0]} s")
         axes = [row[k:k + 8] for k in (1, 9, 17)]
         for axis, place in zip(axes, start):
             axis[0] += place
@@ -428,15 +429,15 @@ def columns_of(head: list[str], first: list[str]) -> dict[str, int]:
         named = not NUMBER.fullmatch(first[0])
         words = (["drone"] if named else []) + ["t", "x", "y", "z", "yaw"][:max(4, len(first) - named)]
         if len(words) != len(first):
-            raise Unreadable("a row has %d cells, and t,x,y,z and maybe yaw are wanted" % len(first))
+            raise Unreadable(f"a row has {len(first)} cells, and t,x,y,z and maybe yaw are wanted")
         return {word: k for k, word in enumerate(words)}
     found: dict[str, int] = {}
     for k, cell in enumerate(head):
         word = COLUMNS.get(cell)
         if word in found:
-            raise Unreadable("two columns are called %s" % word)
+            raise Unreadable(f"two columns are called {word}")
         if word is None and re.match(r"(t|time|x|y|z|yaw)\b", cell):
-            raise Unreadable("a column %.20r, whose unit isn't known" % cell)
+            raise Unreadable(f"a column {cell!r:.20}, whose unit isn't known")
         if word:
             found[word] = k
     if not {"x", "y", "z"} <= set(found) or ("t" in found) == ("ms" in found):
@@ -456,13 +457,13 @@ def read_waypoints(table: Table, stem: str, smooth: bool, counter: Counter) -> d
     points: dict[str, list[Timed]] = {}
     for line, cells in table.rows:
         if len(cells) <= last or (not head and len(cells) > len(columns)):
-            raise Unreadable("line %d: %d cells, and %d are wanted" % (line, len(cells), len(columns)))
+            raise Unreadable(f"line {line}: {len(cells)} cells, and {len(columns)} are wanted")
         row = counter.numbers(line, [cells[place] for place in places], tens)
         own = points.setdefault(cells[columns["drone"]] if "drone" in columns else stem, [])
         limit_drones(len(points))
         own.append((row[0], row[1:4] + (row[4:] or [Fraction(0)])))
         if len(own) > 1 and own[-2][0] >= own[-1][0]:
-            raise Unreadable("line %d: the time doesn't grow" % line)
+            raise Unreadable(f"line {line}: the time doesn't grow")
     return {word: joined(own, smooth) for word, own in points.items()}
 
 
@@ -494,7 +495,7 @@ def read_starts(path: str) -> dict[str, Row]:
     counter = Counter(NUMBERS)
     for line, cells in Table(limited(path)).rows:
         if len(cells) != 4 or cells[0] in out:
-            raise Unreadable("line %d: name,x,y,z are wanted, once for each drone" % line)
+            raise Unreadable(f"line {line}: name,x,y,z are wanted, once for each drone")
         out[cells[0]] = counter.numbers(line, cells[1:], [6] * 3)
     return out
 
@@ -514,12 +515,12 @@ def fleet_rows(text: str) -> Iterator[tuple[int, str, str, str]]:
         if not word and not colon:
             continue
         if line[indent] == "\t":
-            raise Unreadable("line %d: a tab, which YAML doesn't allow there" % number)
+            raise Unreadable(f"line {number}: a tab, which YAML doesn't allow there")
         if key and (word.startswith("-") or not colon):
             value += "," * (value != "") + line.strip().lstrip("- ")
             continue
         if key:
-            yield begun, name, key, value if LIST.fullmatch(value) or "," not in value else "[%s]" % value
+            yield begun, name, key, value if LIST.fullmatch(value) or "," not in value else f"[{value}]"
             key = ""
         if robots >= 0 and indent <= robots:
             robots = -1
@@ -543,7 +544,7 @@ def read_fleet(path: str) -> dict[str, Row]:
             found = LIST.fullmatch(value)
             cells = [cell.strip() for cell in found[1].split(",")] if found else []
             if len(cells) != 3:
-                raise Unreadable("line %d: initial_position of %.40s is x, y and z, as [0.0, 0.5, 0.0]" % (number, name))
+                raise Unreadable(f"line {number}: initial_position of {name:.40} is x, y and z, as [0.0, 0.5, 0.0]")
             out[name] = counter.numbers(number, cells, [6] * 3)
     if not out:
         raise Unreadable("no robot has an initial_position below `robots`")
@@ -562,8 +563,8 @@ def members_of(path: str, stem: str) -> list[tuple[str, str, bytes]]:
     archive = Archive(data)
     names = [name for name in sorted(archive.names()) if name.lower().endswith(".csv")]
     if not names:
-        raise Unreadable("%s: a zip without a CSV file, and without a show.json" % path)
-    return [("%s, %.60s" % (path, name), stem, archive.data(name)) for name, stem in zip(names, stems_of(names))]
+        raise Unreadable(f"{path}: a zip without a CSV file, and without a show.json")
+    return [(f"{path}, {name:.60}", stem, archive.data(name)) for name, stem in zip(names, stems_of(names))]
 
 
 def stem_of(path: str) -> str:
@@ -597,7 +598,7 @@ def read_csv(files: Sequence[str], waypoints: bool, smooth: bool = False,
         if waypoints or {"x", "y", "z"} <= words and {"t", "ms"} & words:
             return read_waypoints(table, stem, smooth, counter)
         if places is not None and stem not in places:
-            raise Unreadable("the file of --starts has no place for %.40s" % stem)
+            raise Unreadable(f"the file of --starts has no place for {stem:.40}")
         return {stem: read_polynomials(table, (places or {}).get(stem, [Fraction(0)] * 3), counter)}
     members = (member for path, stem in zip(files, stems_of(files)) for member in members_of(path, stem))
     for where, stem, data in members:
@@ -609,7 +610,7 @@ def read_csv(files: Sequence[str], waypoints: bool, smooth: bool = False,
                 found[word] = checked(name_of(word, taken), pieces)
                 limit_drones(len(found))
         except Unreadable as error:
-            raise Unreadable("%s: %s" % (where, error))
+            raise Unreadable(f"{where}: {error}")
     if not (starts or "").lower().endswith(FLEET) and (lost := [word for word in places or () if word not in found]):
-        raise Unreadable("%s: no file is called %.40r" % (starts, lost[0]))
+        raise Unreadable(f"{starts}: no file is called {lost[0]!r:.40}")
     return list(found.values())

@@ -13,9 +13,9 @@ def drones_of(path: str) -> list[tuple[str, Row, list[Segment]]]:
         try:
             status, text = program.ask(["compile"], text)
         except program.Unusable as why:
-            return stop("the show can't be compiled: %s" % why)
+            return stop(f"the show can't be compiled: {why}")
         if status:
-            stop("%s: %s" % (path, text.decode(errors="replace").strip()), status)
+            stop(f"{path}: {text.decode(errors='replace').strip()}", status)
     out = []
     for name, data, pieces, _ in parts_of_plan(text, path):
         found = decoded(data, pieces) or stop(f"{path}: the bytes of {name} are no trajectory of {many(pieces, 'segment')}")

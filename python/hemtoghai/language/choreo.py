@@ -79,12 +79,12 @@ class Refused(Exception):
     """A refusal: its status, the words of its fault line, the outcome that it counts as, and maybe its line number."""
 
     def __init__(self, status: int, words: str, outcome: str, number: int | None = None) -> None:
-        super().__init__("error %d %s" % (status, words))
-        self.status, self.outcome, self.number, self.output = status, outcome, number, "error %d %s\n" % (status, words)
+        super().__init__(f"error {status} {words}")
+        self.status, self.outcome, self.number, self.output = status, outcome, number, f"error {status} {words}\n"
 
 
 def fault(number: int, word: str, outcome: str | None = None) -> Refused:
-    return Refused(3, "line %d %s" % (number, word), outcome or word, number)
+    return Refused(3, f"line {number} {word}", outcome or word, number)
 
 
 class Line:
@@ -463,7 +463,7 @@ def fit(number: int, values: list[Row]) -> None:
     for axis, row in enumerate(values):
         for value in row:
             if not -32768 <= (rounded(value) if axis < 3 else value) <= 32767:
-                raise fault(number, "out-of-range %s %d" % (AXES[axis], value), "out-of-range " + AXES[axis])
+                raise fault(number, f"out-of-range {AXES[axis]} {value}", "out-of-range " + AXES[axis])
 
 
 def joined(flight: list[Segment]) -> list[Segment]:
@@ -483,7 +483,7 @@ def joined(flight: list[Segment]) -> list[Segment]:
 def segment_bytes(milliseconds: int, elements: list[Row]) -> bytes:
     header = sum(KINDS[len(e)] << (2 * k) for k, e in enumerate(elements))
     numbers = [v for e in elements for v in e[1:]]
-    return struct.pack("<BH%dh" % len(numbers), header, milliseconds, *numbers)
+    return struct.pack(f"<BH{len(numbers)}h", header, milliseconds, *numbers)
 
 
 def bytes_of(start: Row, segments: list[Segment]) -> bytes:

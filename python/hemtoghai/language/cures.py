@@ -65,13 +65,13 @@ def row_of(word: str) -> Row | None:
     with open(os.path.join(TOP, LANGUAGE), encoding="utf-8") as lines:
         for line in lines:
             cells = [cell.strip() for cell in line.strip().strip("|").split("|")]
-            if cells[0] == "`%s`" % word and len(cells) == 4:
+            if cells[0] == f"`{word}`" and len(cells) == 4:
                 return cells[1:]
     return None
 
 
 def short(digits: str) -> str:
-    return digits if len(digits) <= 24 else "%s.. (%d digits)" % (digits[:12], len(digits.lstrip("-")))
+    return digits if len(digits) <= 24 else f"{digits[:12]}.. ({len(digits.lstrip('-'))} digits)"
 
 
 def numbers_of(line: bytes) -> Iterator[tuple[str, Number, Meaning]]:
@@ -178,7 +178,7 @@ def odd_row(name: str, word: str, number: str) -> Row | None:
 def quantity_row(name: str, slot: Number, counts: Counts, word: str) -> Row:
     """The row of a word that is no quantity in its place, in `choreo 2`."""
     units = counts.units
-    if row := odd_row(name, word, "0+|[0-9]+([.][0-9]+)?(%s)" % "|".join(units)):
+    if row := odd_row(name, word, f"0+|[0-9]+([.][0-9]+)?({'|'.join(units)})"):
         return row
     (sign, whole, point, fraction, unit), = re.findall(r"\A([+-]?)([0-9]*)([.,]?)([0-9]*)(.*)\Z", word, re.S)
     if not whole + fraction or re.search("[-0-9/*+.,]", unit):
@@ -281,7 +281,7 @@ def shown(line: bytes) -> tuple[str, int | None]:
     for at, byte in enumerate(line):
         if place is None and (comment < 0 or at <= comment) and byte not in (9, 13) and not 32 <= byte <= 126:
             place = at
-        text.append(chr(byte) if 32 <= byte <= 126 else " " if byte in (9, 13) else "\\x%02X" % byte)
+        text.append(chr(byte) if 32 <= byte <= 126 else " " if byte in (9, 13) else f"\\x{byte:02X}")
     return "".join(text), place
 
 
@@ -289,11 +289,11 @@ def print_cure(who: str, number: int, word: str, text: bytes) -> None:
     """Writes the line of a text and what helps to standard error."""
     line = b"".join(text.split(b"\n")[number - 1:number])
     words, place = shown(line)
-    print("%6d | %s" % (number, words[:200]), file=sys.stderr)
+    print(f"{number:6d} | {words[:200]}", file=sys.stderr)
     if word == "bad-byte" and place is not None:
-        print("%s: byte %d of the line is %02X" % (who, place + 1, line[place]), file=sys.stderr)
+        print(f"{who}: byte {place + 1} of the line is {line[place]:02X}", file=sys.stderr)
     if row := cure_in(text, number, word):
         for label, cell in zip((word, "most often", "cure"), row):
             if cell:
-                print("%s: %s: %s" % (who, label, cell), file=sys.stderr)
-    print("%s: read on: %s, Faults" % (who, LANGUAGE), file=sys.stderr)
+                print(f"{who}: {label}: {cell}", file=sys.stderr)
+    print(f"{who}: read on: {LANGUAGE}, Faults", file=sys.stderr)

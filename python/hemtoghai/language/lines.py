@@ -37,5 +37,5 @@ def with_words_at(line: bytes, new: dict[int, str]) -> bytes:
 
 def free_name(name: str, taken: Collection[str]) -> str:
     """A name that none has, made from another one; it has at most 16 letters."""
-    names = (name[:15 - len(str(number))] + "_%d" % number for number in itertools.count(2))
+    names = (name[:15 - len(str(number))] + f"_{number}" for number in itertools.count(2))
     return next(it for it in names if it not in taken)

@@ -43,8 +43,7 @@ class Around(NamedTuple):
 
     def where(self) -> str:
         """Where the line stands, in words."""
-        return "at the top level" if self.place == "top" else "in the %s of line %d" % (
-            self.place, self.blocks[-1].number)
+        return "at the top level" if self.place == "top" else f"in the {self.place} of line {self.blocks[-1].number}"
 
     def line(self, number: int) -> str:
         """The words of another line, as they are shown."""
@@ -78,9 +77,9 @@ def nearest(word: str, known: Iterable[str]) -> str | None:
 def meant(word: str, known: Sequence[str], kind: str) -> str:
     """What to write in the place of a word: the known one that is near to it, and else which there are."""
     if near := nearest(word, known):
-        return "write `%s`" % near
-    return "there is no %s yet" % kind if not known else "the only %s is %s" % (kind, known[0]) if len(known) == 1 else (
-        "the %ss are %s" % (kind, names_listed(known)))
+        return f"write `{near}`"
+    return f"there is no {kind} yet" if not known else f"the only {kind} is {known[0]}" if len(known) == 1 else (
+        f"the {kind}s are {names_listed(known)}")
 
 
 def around(text: bytes, number: int) -> Around | None:
@@ -191,7 +190,7 @@ def last_closed(at: Around) -> str:
     if not at.blocks[-1].body or at.blocks[-1].body[-1].kind not in choreo.OPENING:
         return ""
     line = at.blocks[-1].body[-1]
-    return ": the %s of line %d was closed in line %d" % (line.kind, line.number, line.last)
+    return f": the {line.kind} of line {line.number} was closed in line {line.last}"
 
 
 def in_cue(at: Around) -> bool:
@@ -240,7 +239,7 @@ def name_row(at: Around) -> Row | None:
     new = re.sub("[^a-z0-9_]", "_", word.lower())[:16]
     new = new if not new[:1].isdigit() and new[:1] != "_" else "d" + new[:15]
     why = ("it is a word of the language" if word in ("form", "end") else
-           "it has %d letters, and a name at most 16" % len(word) if re.fullmatch("[a-z][a-z0-9_]*", word) else
+           f"it has {len(word)} letters, and a name at most 16" if re.fullmatch("[a-z][a-z0-9_]*", word) else
            "it has a capital letter" if re.fullmatch("[a-z][a-z0-9_]*", word.lower()) else
            "a name begins with a lower-case letter" if re.fullmatch("[a-z0-9_]*", word) else
            "a name has a-z, 0-9 and `_` alone")

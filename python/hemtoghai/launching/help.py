@@ -81,27 +81,27 @@ def help_text() -> str:
 
 def usage_of(command: str) -> str:
     second = table.SECOND.get(command)
-    files = "" if command in table.NO_INPUT else " [SHOW]" if not second else " [SHOW [%s]]" % second.upper()
-    lines = ["usage: %s %s%s" % (COMMAND, table.FORMS[command], files), "", table.PURPOSES[command]]
+    files = "" if command in table.NO_INPUT else " [SHOW]" if not second else f" [SHOW [{second.upper()}]]"
+    lines = [f"usage: {COMMAND} {table.FORMS[command]}{files}", "", table.PURPOSES[command]]
     numbers = [commands.number_of(command), *commands.options_of(command).values()]
     lines += ["%s is %d to %d" % (name, *table.NUMBERS[name])
               for name in dict.fromkeys(numbers) if name and not commands.choices_of(name)]
     if command in WITH_JSON:
         lines.append("--json writes the answer as values, in one line of JSON")
-    return "\n".join(lines) + "\nMore: docs/COMMANDS.md#%s\n" % command
+    return "\n".join(lines) + f"\nMore: docs/COMMANDS.md#{command}\n"
 
 
 # ---- where words or files are wrong, or the program refused them
 
 def fault_of_file(file: str) -> str | None:
     if "\0" in file or os.path.isdir(file):
-        return "%s is a directory" % file
+        return f"{file} is a directory"
     if not os.path.exists(file):
         near, folder = [], os.path.dirname(file)
         with contextlib.suppress(OSError, ValueError):
             near = [os.path.join(folder, name) for name in os.listdir(folder or ".")[:1000]]
-        return "there is no file %s%s" % (file, commands.meant(file, near))
-    return None if os.access(file, os.R_OK) else "%s can't be read: no permission" % file
+        return f"there is no file {file}{commands.meant(file, near)}"
+    return None if os.access(file, os.R_OK) else f"{file} can't be read: no permission"
 
 
 def fault_of_files(words: list[str], files: list[str]) -> str | None:
@@ -111,18 +111,18 @@ def fault_of_files(words: list[str], files: list[str]) -> str | None:
         if fault:
             return fault
     if second == "frames" and len(files) > 1 and "-" in files:
-        return "upload reads frames while it writes: { cat SHOW; echo %%%%; cat; } | %s upload" % COMMAND
+        return f"upload reads frames while it writes: {{ cat SHOW; echo %%; cat; }} | {COMMAND} upload"
     if command in table.NO_INPUT and files:
-        return "%s reads no file" % command
+        return f"{command} reads no file"
     if command == "upload" and len(files) == 1 and sys.stdout.isatty():
-        return "upload writes frames for a bridge, and nothing for people: %s bridge %s" % (COMMAND, files[0])
+        return f"upload writes frames for a bridge, and nothing for people: {COMMAND} bridge {files[0]}"
     if len(files) > (2 if second else 1):
         return "%s reads %s" % (command, "two files: a show and its " + second if second else "one file")
     if files.count("-") > 1:
         return "standard input is one of the two files, not both"
     if command == "boxes" and len(files) == 1 and files[0] != "-" and os.path.isfile(files[0]) and not {
             b"%%", b"%%\r"} & set(texts.front_of(files[0], 2 * texts.SHOW).split(b"\n")):
-        return "boxes reads regions too: %s boxes SHOW REGIONS" % COMMAND
+        return f"boxes reads regions too: {COMMAND} boxes SHOW REGIONS"
     return None
 
 

@@ -33,7 +33,7 @@ def crates_below(name: str) -> dict[str, list[str]]:
     while wanted:
         crate = wanted.pop()
         if crate not in listed:
-            raise FileNotFoundError(2, "it has no line for the crate %s" % crate, "crates.txt")
+            raise FileNotFoundError(2, f"it has no line for the crate {crate}", "crates.txt")
         if crate not in found:
             found[crate] = [library for library in listed[crate] if library in listed]
             wanted += found[crate]
@@ -73,7 +73,7 @@ def sha256(path: str) -> str:
 def stamp(below: dict[str, list[str]]) -> str:
     """What the sources are: a SHA-256 over the names and the contents of all files that the program is made from."""
     files = ["crates.txt", *(os.path.relpath(file, TOP) for crate in below for file in sources(crate))]
-    lines = ["%s  %s\n" % (sha256(os.path.join(TOP, file)), file) for file in sorted(files)]
+    lines = [f"{sha256(os.path.join(TOP, file))}  {file}\n" for file in sorted(files)]
     return program.digest_of("".join(lines).encode("utf-8", "surrogateescape"))
 
 
@@ -96,9 +96,9 @@ def answer_of(*words: str, without: Callable[[str], str] = lambda why: "") -> st
     try:
         done = subprocess.run(words, cwd=TOP, stdin=subprocess.DEVNULL, stdout=subprocess.PIPE, stderr=subprocess.PIPE)
     except OSError as error:
-        return without("%s: %s" % (words[0], error.strerror))
+        return without(f"{words[0]}: {error.strerror}")
     if done.returncode:
-        return without("%s: %s" % (" ".join(words), done.stderr.decode(errors="replace").strip()))
+        return without(f"{' '.join(words)}: {done.stderr.decode(errors='replace').strip()}")
     return done.stdout.decode(errors="replace").strip()
 
 
@@ -128,7 +128,7 @@ def differing(wanted: dict[str, str]) -> Iterator[str]:
             if not os.path.isfile(place) or sha256(place) != digest:
                 yield "not as released: " + path
         except OSError as error:
-            yield "not as released: %s: %s" % (path, error.strerror)
+            yield f"not as released: {path}: {error.strerror}"
     known = {*wanted, "MANIFEST.json"}
     for path in sorted(all_files(TOP)):
         if path not in known and not (program.IS_INSTALLED and "__pycache__" in path.split(os.sep)):

@@ -15,7 +15,7 @@ def marks_of(paths: list[str]) -> str:
     for path in paths:
         try:
             found = stat(path)
-            out.append("%d %d %d" % (found[1], found[6], found.st_ctime_ns))
+            out.append(f"{found[1]} {found[6]} {found.st_ctime_ns}")
         except OSError:
             out.append("-")
     return "\n".join(out)
@@ -76,7 +76,7 @@ def is_known_current(path: str) -> bool:
 
 def note(path: str, text: str) -> None:
     """Notes what was looked at; nothing where that can't be written."""
-    new = "%s%s.%d" % (path, SEEN, os.getpid())
+    new = f"{path}{SEEN}.{os.getpid()}"
     try:
         with open(new, "w", encoding="utf-8", errors="surrogateescape") as file:
             file.write(text)

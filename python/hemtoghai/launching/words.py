@@ -31,18 +31,18 @@ def meant(word: str, choices: Iterable[str]) -> str:
     """A question after a word that isn't known, where one that is known is near to it."""
     import difflib
     near = difflib.get_close_matches(word[:200], list(choices), 1, 0.7)
-    return "; did you mean %s?" % near[0] if near else ""
+    return f"; did you mean {near[0]}?" if near else ""
 
 
 def fault_of_number(name: str, word: str | None) -> str | None:
     """What is wrong with a number, or with a word in its place, or None."""
     if choices_of(name):
         return None if word in choices_of(name) else "it is %s%s" % (
-            " or ".join(choices_of(name)), "" if word is None else ", not %s" % word)
+            " or ".join(choices_of(name)), "" if word is None else f", not {word}")
     low, high = NUMBERS[name]
     if word is not None and word.isascii() and word.isdigit() and len(word) < 10 and low <= int(word) <= high:
         return None
-    return "%s is %d to %d%s" % (name, low, high, "" if word is None else ", not %s" % word)
+    return "%s is %d to %d%s" % (name, low, high, "" if word is None else f", not {word}")
 
 
 def fault_of_option(command: str, word: str, its: Iterable[str]) -> str:
@@ -51,7 +51,7 @@ def fault_of_option(command: str, word: str, its: Iterable[str]) -> str:
     if word == "--json" and command in WITH_JSON:
         return ("--unproved and --json don't go together, since JSON has the proved program's answer: "
                 "leave one of them out")
-    return "%s has no option %s%s" % (command, word, meant(word.partition("=")[0], its))
+    return f"{command} has no option {word}{meant(word.partition('=')[0], its)}"
 
 
 def split(words: list[str]) -> tuple[list[str], list[str], str | None]:
@@ -60,8 +60,8 @@ def split(words: list[str]) -> tuple[list[str], list[str], str | None]:
     command, left = words[0], list(words[1:])
     if command not in FORMS:
         from hemtoghai.__main__ import COMMANDS
-        better = meant(command, [*FORMS, *COMMANDS]) or "; %s --help lists them" % COMMAND
-        return words, [], "there is no command %s%s" % (command, better)
+        better = meant(command, [*FORMS, *COMMANDS]) or f"; {COMMAND} --help lists them"
+        return words, [], f"there is no command {command}{better}"
     front, its = [command], options_of(command)
     files: list[str] = []
     seen: set[str] = set()
@@ -69,7 +69,7 @@ def split(words: list[str]) -> tuple[list[str], list[str], str | None]:
     while name or left:
         if name:
             if fault := fault_of_number(name, left[0] if left else None):
-                return words, [], "%s: %s" % (what, fault)
+                return words, [], f"{what}: {fault}"
             front.append(left.pop(0))
             name = None
             continue
@@ -84,9 +84,9 @@ def split(words: list[str]) -> tuple[list[str], list[str], str | None]:
         if option not in its or equals and not its[option]:
             return words, [], fault_of_option(command, word, its)
         if option in seen:
-            return words, [], "%s stands twice" % option
+            return words, [], f"{option} stands twice"
         seen.add(option)
         front.append(option)
-        name, what = its[option], "%s %s" % (option, its[option])
+        name, what = its[option], f"{option} {its[option]}"
         left[:0] = [given] if equals else []
     return front, files, None

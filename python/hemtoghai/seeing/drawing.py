@@ -75,7 +75,7 @@ def floor_lines(view: View, low: Place, high: Place) -> Iterator[str]:
         for k in range(int(first), int(last) + 1):
             ends = [view.point([step * k, other, 0] if axis == 0 else [other, step * k, 0])
                     for other in (low[1 - axis], high[1 - axis])]
-            yield '<polyline points="%s" fill="none" stroke="#ddd"/>' % coordinates(ends)
+            yield f'<polyline points="{coordinates(ends)}" fill="none" stroke="#ddd"/>'
 
 
 def drone_lines(view: View, flown: Flown, row: Place, k: int, opacity: float) -> Iterator[str]:
@@ -87,7 +87,7 @@ def drone_lines(view: View, flown: Flown, row: Place, k: int, opacity: float) ->
         x, y, x, low, shade, 0.4 * opacity)
     yield ('<ellipse cx="%.1f" cy="%.1f" rx="%.1f" ry="%.1f" fill="%s" fill-opacity="%.2f" stroke="%s" '
            'stroke-opacity="%.2f"/>') % (x, y, r * view.scale, up * view.scale, shade, 0.14 * opacity, shade, opacity)
-    yield '<circle cx="%.1f" cy="%.1f" r="3" fill="%s" fill-opacity="%.2f"/>' % (x, y, shade, opacity)
+    yield f'<circle cx="{x:.1f}" cy="{y:.1f}" r="3" fill="{shade}" fill-opacity="{opacity:.2f}"/>'
 
 
 def drawing_of(flown: Flown, times: Sequence[int], places: Sequence[Sequence[Place]]) -> str:
@@ -102,7 +102,7 @@ def drawing_of(flown: Flown, times: Sequence[int], places: Sequence[Sequence[Pla
     view.fit(rows + floor, hypot(r * view.tilt[1], h * view.tilt[0]))
     out = ['<svg xmlns="http://www.w3.org/2000/svg" viewBox="0 0 %d %d" width="%d" height="%d">' % (
         WIDTH, view.height, WIDTH, view.height),
-        "<title>The flight of %d drones in space, with their ellipsoids</title>" % len(flown.names),
+        f"<title>The flight of {len(flown.names)} drones in space, with their ellipsoids</title>",
         '<rect width="100%" height="100%" fill="#fff"/>', *floor_lines(view, low, high)]
     for k in range(len(flown.names)):
         points = coordinates(view.point(row[k][:3]) for row in places)

@@ -38,7 +38,7 @@ def modules_of(script: str) -> list[str]:
 def import_map(script: str) -> str:
     """The import map of a page with this script. A debugger shows each module under its own name."""
     def address(name: str) -> str:
-        words = named(read(name)) + "//# sourceURL=%s\n" % name
+        words = named(read(name)) + f"//# sourceURL={name}\n"
         return "data:text/javascript;base64," + base64.b64encode(words.encode()).decode()
 
     return json.dumps({"imports": {"page/" + name: address(name) for name in modules_of(script)}})

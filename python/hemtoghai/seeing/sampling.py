@@ -60,7 +60,7 @@ def played(rows: list[str], names: list[str]) -> tuple[list[int], list[list[Samp
     for k, row in enumerate(rows):
         instant, name, x, y, z, yaw = row.split(" ")
         if name != names[k % len(names)]:
-            stop("play wrote a row of %s where %s comes next" % (name, names[k % len(names)]))
+            stop(f"play wrote a row of {name} where {names[k % len(names)]} comes next")
         if k % len(names) == 0:
             times.append(int(instant))
             places.append([])
@@ -162,7 +162,7 @@ def regions_of(path: str) -> list[Region]:
                     raise ValueError
                 out.append([kind, *limits])
         except ValueError:
-            stop("%s, line %d: this is no region: %s" % (path, number, line[:60]))
+            stop(f"{path}, line {number}: this is no region: {line[:60]}")
     return out
 
 

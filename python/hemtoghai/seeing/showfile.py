@@ -133,7 +133,7 @@ def difference(old: str, new: str) -> list[list[str]]:
     """Two texts as lines with a mark each: + new, - old, a blank for both, @ for a gap."""
     before, after = old.split("\n"), new.split("\n")
     if len(before) + len(after) > MOST_DIFF:
-        return [["@", "%d lines before, %d lines now: too many to show what changed" % (len(before), len(after))]]
+        return [["@", f"{len(before)} lines before, {len(after)} lines now: too many to show what changed"]]
     rows = list(difflib.unified_diff(before, after, lineterm="", n=2))[2:]
     return [["@", re.sub(r"@@ -(\d+).* \+(\d+).*", r"line \2", row)] if row.startswith("@@") else [row[:1], row[1:]]
             for row in rows]

@@ -48,7 +48,7 @@ class Opening:
         """The link or the file's address."""
         if os.access(CONNECTIONS[0], os.R_OK):
             self.word = secrets.token_urlsafe(24)
-            return "http://127.0.0.1:%d/%s" % (self.port, self.word)
+            return f"http://127.0.0.1:{self.port}/{self.word}"
         self.folder = tempfile.TemporaryDirectory(prefix="studio")  # which this user alone may enter
         path, place = os.path.join(self.folder.name, "studio.html"), html.escape(self.url)
         with open(os.open(path, os.O_WRONLY | os.O_CREAT | os.O_EXCL, 0o600), "w") as file:

@@ -70,7 +70,7 @@ class Handler(BaseHTTPRequestHandler):
     def foreign(self) -> int | None:
         """The status with which a request from elsewhere is refused, or None. The Host is looked at so that no name of
         another site can lead here, and the Origin so that no page of another site can send."""
-        hosts = ["%s:%d" % (name, self.server.server_port) for name in ("127.0.0.1", "localhost")]
+        hosts = [f"{name}:{self.server.server_port}" for name in ("127.0.0.1", "localhost")]
         if self.headers.get("Host") not in hosts:
             return 421
         origin = self.headers.get("Origin")
@@ -108,7 +108,7 @@ class Handler(BaseHTTPRequestHandler):
 
     def do_GET(self) -> None:
         if self.is_opening():
-            self.head(303, "text/plain; charset=utf-8", ("Location", "/%s/" % self.studio.token))
+            self.head(303, "text/plain; charset=utf-8", ("Location", f"/{self.studio.token}/"))
             return
         self.route({"": self.get_page, "text": self.get_text, "events": self.get_events, "music": self.get_music})
 
@@ -164,8 +164,8 @@ class Handler(BaseHTTPRequestHandler):
     def get_page(self) -> None:
         """The page; no script runs in it but its own."""
         nonce = secrets.token_urlsafe(16)
-        policy = ("default-src 'none'; script-src 'nonce-%s'; style-src 'nonce-%s'; connect-src 'self'; img-src data: "
-                  "blob:; media-src blob:; base-uri 'none'; form-action 'none'; frame-ancestors 'none'" % (nonce, nonce))
+        policy = (f"default-src 'none'; script-src 'nonce-{nonce}'; style-src 'nonce-{nonce}'; connect-src 'self'; "
+                  "img-src data: blob:; media-src blob:; base-uri 'none'; form-action 'none'; frame-ancestors 'none'")
         self.head(200, "text/html; charset=utf-8", ("Content-Security-Policy", policy))
         self.wfile.write(self.studio.page(nonce))
 
@@ -297,7 +297,7 @@ class Handler(BaseHTTPRequestHandler):
                 self.wfile.flush()
             if worker.wait() and not job.cancelled:
                 words = worker.stderr.read().decode(errors="replace").strip().split("\n")[-1]
-                self.put({"stage": "halted", "words": words or "it was ended after %d seconds" % LIMIT})
+                self.put({"stage": "halted", "words": words or f"it was ended after {LIMIT} seconds"})
         finally:
             watch.cancel()
             job.leave(worker)
@@ -411,9 +411,9 @@ class Handler(BaseHTTPRequestHandler):
         answered, _ = self.studio.ask(Job(), "check", asked["text"])
         found = re.search(rb"duration_ms (\d+)", answered.said if answered else b"")
         speed = min(FASTER, max(1, int(found[1]) // (1000 * FLIGHT))) if found else 20
-        status, said, told = self.made(["fly"], asked["text"], "--simulate", "--yes", "--sim", "speed=%d" % speed)
+        status, said, told = self.made(["fly"], asked["text"], "--simulate", "--yes", "--sim", f"speed={speed}")
         words = (said + told).decode(errors="replace").strip()
-        self.offer(status, asked["text"], {}, "%s\nstatus %s, %d times faster than real time" % (words, status, speed))
+        self.offer(status, asked["text"], {}, f"{words}\nstatus {status}, {speed} times faster than real time")
 
     def download(self, command: str, asked: Asked) -> None:
         """The plan or the certificate, or the line by which the show is refused."""
@@ -455,7 +455,7 @@ class Server(ThreadingHTTPServer):
     def __init__(self, address: tuple[str, int], studio: Studio) -> None:
         super().__init__(address, Handler)
         self.listeners, self.studio = threading.Semaphore(MOST_LISTENERS), studio
-        self.opening = Opening("http://127.0.0.1:%d/%s/" % (self.server_port, studio.token), self.server_port)
+        self.opening = Opening(f"http://127.0.0.1:{self.server_port}/{studio.token}/", self.server_port)
         self.waiting: dict[socket.socket, None] = {}  # those that have sent no request yet, the oldest first
         self.most_waiting, self.lock = most_waiting(), threading.Lock()
 
@@ -480,4 +480,4 @@ class Server(ThreadingHTTPServer):
 
     def handle_error(self, request: object, client_address: object) -> None:
         """Says in a line what went wrong with a request."""
-        print("%s: a request failed: %r" % (tool_name(), sys.exc_info()[1]), file=sys.stderr)
+        print(f"{tool_name()}: a request failed: {sys.exc_info()[1]!r}", file=sys.stderr)

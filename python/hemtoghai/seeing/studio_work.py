@@ -60,7 +60,7 @@ def refused(text: bytes, program: str) -> tuple[int, str]:
     """What is said where `check` can't be asked; a marker line is refused as the program does."""
     show, second, markers = choreo.parts_of(text)
     answer = without_program(show, program)
-    return answer if second is None or answer[0] == 3 else (11, "error 11 line %d" % markers[0])
+    return answer if second is None or answer[0] == 3 else (11, f"error 11 line {markers[0]}")
 
 
 def formed_lines(flown: choreo.Flown, cue: choreo.Cue) -> list[list[int]]:
@@ -233,7 +233,7 @@ def put_flight(text: bytes, deep: int, program: str, answer: list[Any] | None, p
 def tool(path: str, word: str, *words: str) -> int:
     """Runs a tool that asks the program at a path. No real drone is flown by such a program."""
     if word not in TOOLS or word == "fly" and "--simulate" not in words:
-        stop("%s is no tool of the page" % word)
+        stop(f"{word} is no tool of the page")
     proved.PROGRAM, proved.as_it_is[0] = path, True
     set_tool(word)
     status: int = importlib.import_module("hemtoghai.commands." + word).main(list(words))

@@ -171,7 +171,7 @@ class Show:
     def drone(self, name: str, place: Place, yaw: float = 0) -> None:
         """Adds a drone at a place; all drones come before the first cue."""
         if name in self.places:
-            raise ValueError("two drones have the name %s" % name)
+            raise ValueError(f"two drones have the name {name}")
         self.places[name], self.yaws[name] = tuple(place), yaw
         self.add("drone", name, *map(micrometres, place), round(10 * yaw))
 
@@ -186,7 +186,7 @@ class Show:
         worst, yaws = 0.0, yaws or {}
         for name, path in paths.items():
             if dist(path(0), self.places[name]) > 0.001:
-                raise ValueError("%s is at %s, and its path begins at %s" % (name, self.places[name], path(0)))
+                raise ValueError(f"{name} is at {self.places[name]}, and its path begins at {path(0)}")
         for k in range(cuts):
             u, v = k / cuts, (k + 1) / cuts
             self.add("cue", round(1000 * seconds * v) - round(1000 * seconds * u))

@@ -34,17 +34,16 @@ def motion(program: str, flown: Flown, text: bytes, most: dict[str, int] | None 
     try:
         status, output = proved.ask(words, text, program)
     except proved.Unusable as why:
-        raise NoAnswer("`dynamics` can't be asked: %s" % why) from None
+        raise NoAnswer(f"`dynamics` can't be asked: {why}") from None
     if status not in (0, 18):
-        raise NoAnswer("`dynamics` ended with %d" % status)
+        raise NoAnswer(f"`dynamics` ended with {status}")
     found = re.match(rb"error 18 drone (\S+) cue (\d+) (accel|jump) ([xyz]) (\d+)\n", output)
     if not found:
         return None
     name, cue, what, axis, number = (word.decode() for word in found.groups())
     said = "needs up to %.2f m/s^2 on %s, more than %g" if what == "accel" else "jumps by %.2f m/s on %s, more than %g"
-    when = "cue %s" % cue if int(cue) <= len(flown.cues) else "the end"
-    return "line %d, %s: %s %s" % (line_of_cue(flown, int(cue)), when, name,
-                                   said % (int(number) / 1e6, axis, most[what] / 1000))
+    when = f"cue {cue}" if int(cue) <= len(flown.cues) else "the end"
+    return f"line {line_of_cue(flown, int(cue))}, {when}: {name} {said % (int(number) / 1e6, axis, most[what] / 1000)}"
 
 
 def below(flown: Flown) -> str | None:
@@ -62,7 +61,7 @@ def small(flown: Flown) -> str | None:
     rows = (row for flight in flown.by_cue for _, elements in flight for row in elements[:3])
     if all(abs(v) <= SMALL for row in rows for v in row):
         cure = "a metre is 1m" if flown.show.form == 2 else "lengths are micrometres, so a metre is 1000000"
-        return "all places lie within %d mm of the origin: %s" % (SMALL, cure)
+        return f"all places lie within {SMALL} mm of the origin: {cure}"
     return None
 
 
@@ -83,7 +82,7 @@ def on_floor(flown: Flown) -> str | None:
                  "line %d, the end: %s ends %d mm above z 0" % (line_of_cue(flown, len(flown.cues)), name, end)
                  if end <= GROUND else None)
         if where:
-            return "%s: %s fly takes a show that is at least %d mm above the pads there" % (where, proved.COMMAND, LIFT)
+            return f"{where}: {proved.COMMAND} fly takes a show that is at least {LIFT} mm above the pads there"
     return None
 
 
@@ -106,8 +105,8 @@ def still(flown: Flown) -> str | None:
     for number, cue in enumerate(flown.cues, 1):
         for name, (line, act, to) in cue.acts.items():
             if act in choreo.ARCS and list(to[1:3]) == flown.places[flown.names.index(name)][number - 1][:2]:
-                return ("line %d, cue %d: %s is at the centre of its own `%s`, so it stays there and turns alone: CX and CY "
-                        "are the centre of the circle" % (line, number, name, act))
+                return (f"line {line}, cue {number}: {name} is at the centre of its own `{act}`, so it stays there and "
+                        "turns alone: CX and CY are the centre of the circle")
     return None
 
 

@@ -84,7 +84,7 @@ def said_in(output: str, names: Sequence[str]) -> tuple[list[Said], bool]:
 
 def asked(ask: Ask, text: bytes, deep: int, names: Sequence[str]) -> tuple[list[Said], bool] | None:
     """The same of a show's text; None where the program can't be asked or refuses the text."""
-    answer = ask(["explain", "--all", "--depth", "%d" % deep], text)
+    answer = ask(["explain", "--all", "--depth", str(deep)], text)
     return said_in(answer[1], names) if answer and answer[0] == 0 else None
 
 

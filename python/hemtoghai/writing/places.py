@@ -28,10 +28,10 @@ def both_words(flown: Flown, i: int, j: int, cue: int, u: float) -> tuple[str, f
     """Where two drones are at a fraction of a cue, and how far apart."""
     first, second = place(flown, i, cue, u), place(flown, j, cue, u)
     x, y, z = (b - a for a, b in zip(first, second))
-    places = ["%s at (%s)" % (flown.names[k], ", ".join("%d" % round(v) for v in at)) for k, at in (
+    places = ["%s at (%s)" % (flown.names[k], ", ".join(str(round(v)) for v in at)) for k, at in (
         (i, first), (j, second))]
     side, up = hypot(x, y), abs(z)
-    return "%s, %s mm: %.0f mm to the side, %.0f mm up or down" % (places[0], places[1], side, up), side, up
+    return f"{places[0]}, {places[1]} mm: {side:.0f} mm to the side, {up:.0f} mm up or down", side, up
 
 
 def more_room(flown: Flown, side: float, up: float) -> str:
@@ -49,7 +49,7 @@ def more_room(flown: Flown, side: float, up: float) -> str:
 def print_help(flown: Flown, i: int, j: int, cue: int, ends: list[str], tried: list[Helped]) -> None:
     for word in ends:
         words, side, up = both_words(flown, i, j, cue, 0 if word == "begins" else 1)
-        print("  they are already blocked where the cue %s: %s" % (word, words))
+        print(f"  they are already blocked where the cue {word}: {words}")
         print("    no other way between the same places helps: give one of the two another %s; room enough there is" % (
             "start, or another end of the cue before" if word == "begins" else "end of this cue"))
         print("    " + more_room(flown, side, up))
@@ -63,7 +63,7 @@ def print_help(flown: Flown, i: int, j: int, cue: int, ends: list[str], tried: l
     print("  what helps%s:" % (", tried in this cue against all drones" if least == 0 else " these two, but not all"))
     for remedy, left in tried[:3]:
         if len(left) == least:
-            print("    %s%s (%s more)" % (remedy.words, " (still blocked: %s)" % ", ".join(left) if left else "",
+            print("    %s%s (%s more)" % (remedy.words, f" (still blocked: {', '.join(left)})" if left else "",
                                           seconds(remedy.takes)))
 
 
@@ -76,15 +76,15 @@ def print_place(trials: Trials, lines: list[bytes], found: Meeting, others: list
     print("%s and %s in cue %d, %s" % (flown.names[i], flown.names[j], cue + 1, cue_words(flown.cues[cue])))
     if others:
         print("  and the same in cue %s" % ", ".join(str(other + 1) for other in others))
-    print("  the cue is flown from %s to %s of the show" % (seconds(begin), seconds(begin + time)))
+    print(f"  the cue is flown from {seconds(begin)} to {seconds(begin + time)} of the show")
     for drone in (i, j):
         print("  " + act_words(flown, lines, drone, cue))
     print("  first blocked part: %d of %d" % (index, parts))
     for u, word in ((index / parts, "begins"), ((index + 1) / parts, "ends")):
-        print("    it %s at %s: %s" % (word, seconds(begin + time * u), both_words(flown, i, j, cue, u)[0]))
+        print(f"    it {word} at {seconds(begin + time * u)}: {both_words(flown, i, j, cue, u)[0]}")
     words, side, up = both_words(flown, i, j, cue, found.at)
-    print("  nearest at %s: %s" % (seconds(found.nearest), words))
-    print("  there they have %.1f %% of the distance at which their ellipsoids touch" % (100 * found.share))
+    print(f"  nearest at {seconds(found.nearest)}: {words}")
+    print(f"  there they have {100 * found.share:.1f} % of the distance at which their ellipsoids touch")
     if found.touch:
         print("  TOO NEAR: no depth helps")
     elif found.cause:

@@ -43,7 +43,7 @@ def remedies(flown: choreo.Flown, drone: int, cue: int) -> Iterator[Remedy]:
     name, high = flown.names[drone], -(-int(2 * h * ENOUGH) // 50) * 50
     number, out = flown.cues[cue].acts.get(name, (0,))[0], "leave it out of this cue"
     if any(line.kind == "form" and line.number == number for line in flown.cues[cue].line.body):
-        out = "write the places of line %d as acts, and leave it out" % number
+        out = f"write the places of line {number} as acts, and leave it out"
     if name in acts:
         alone, others = (time, {name: acts.pop(name)}), (time, acts)
         yield Remedy("wait", {drone: 0}, "let %s wait: %s, and let it fly alone in a cue after it" % (name, out),

@@ -28,7 +28,7 @@ def stage_of(flown: Flown, cue: int) -> Stage:
 
 def rows_of(stage: Stage) -> str:
     """The lines of a cue."""
-    return "\n".join(["cue %d" % stage[0], *map(" ".join, stage[1].values()), "end"])
+    return "\n".join([f"cue {stage[0]}", *map(" ".join, stage[1].values()), "end"])
 
 
 @dataclass(frozen=True)
@@ -130,7 +130,7 @@ def cause_of(trials: Trials, i: int, j: int, cue: int) -> str | None:
         return (told or {})[i, j, 0]
 
     def line(word: str, number: int) -> str:
-        return "`%s`" % line_in(flown.show.form, word, number)
+        return f"`{line_in(flown.show.form, word, number)}`"
     borne: list[tuple[str, int, str, int, Callable[[int], bool]]] = [
         ("stray", stray, "late", late, lambda k: are_apart(k, late)),
         ("late", late, "stray", stray, lambda k: are_apart(stray, k))]
@@ -141,4 +141,4 @@ def cause_of(trials: Trials, i: int, j: int, cue: int) -> str | None:
     except KeyError:
         return None
     return ", or ".join(words).replace("with they", "they") or (
-        "%s and %s, and each of them alone is too much here" % (line("stray", stray), line("late", late)))
+        f"{line('stray', stray)} and {line('late', late)}, and each of them alone is too much here")
