@@ -30,21 +30,21 @@ def listed(numbers: list[int]) -> str:
 def report(made: Dealt, before: list[State]) -> None:
     """Says of each `form` line how many places were dealt anew, and how many drones stay where they are."""
     for (line, _), old, new in zip(form_lines(made.flown), before, state(made.flown)):
-        formation, (before_sum, _, written), (sum_, stay, places) = made.flown.show.formations[line.values[0]], old, new
+        formation, (before_sum, _, written), (sum_, stay, places) = made.flown.show.formations[line.name], old, new
         moved = sum(mine != theirs for mine, theirs in zip(places, written))
         say("%s, line %d: %d of %d places dealt anew; the squared ways sum to %.2f m2, before %.2f%s" % (
-            formation.values[0], line.number, moved, len(written), sum_ / 1e12, before_sum / 1e12,
+            formation.name, line.number, moved, len(written), sum_ / 1e12, before_sum / 1e12,
             "; %d drone%s where %s" % (stay, " stays" if stay == 1 else "s stay", "it is" if stay == 1 else "they are")
             if stay else ""))
         if line.number in made.still:
             say("%s, line %d: no drone would move: each place would go to the drone that already has it. The places "
-                "stay as they are written" % (formation.values[0], line.number))
+                "stay as they are written" % (formation.name, line.number))
 
 
 def block(lines: list[bytes], written: choreo.Line, dealt: choreo.Line, name: str, form: int) -> list[bytes]:
     """The lines of a formation's block as it is dealt, under this name and in this form."""
     out = lines[written.number - 1:written.last]
-    if name != written.values[0]:
+    if name != written.name:
         out[0] = with_words(out[0], "formation " + name)
     for old, new in zip(written.body, dealt.body):
         if old.values != new.values:
@@ -57,12 +57,12 @@ def rewritten(text: bytes, made: Dealt) -> tuple[bytes, Callable[[int], int]]:
     """The show's text with the places as they are dealt, a further block for each further way in which a formation is
     formed, and the acts that go with their places; and by the number of a line in the old text that in the new one."""
     flown, lines = made.flown, text.split(b"\n")
-    names = {line.values[0] for line in flown.show.top.body if line.kind == "formation"}
+    names = {line.name for line in flown.show.top.body if line.kind == "formation"}
     new = [[line] for line in lines]  # what stands in the place of each line
     known: dict[str, list[tuple[list[Words], str]]] = {}
     for line, _ in form_lines(flown):
-        formation = flown.show.formations[line.values[0]]
-        name, places = formation.values[0], words_of(formation)
+        formation = flown.show.formations[line.name]
+        name, places = formation.name, words_of(formation)
         ways = known.setdefault(name, [])
         if places not in [way for way, _ in ways]:
             called = name if not ways else free_name(name, names)

@@ -89,7 +89,7 @@ def crossing_forms(flown: Flown, cue: int) -> list[choreo.Line]:
     out = []
     for line, cues in form_lines(flown):
         if cue in cues:
-            cost = costs(flown, flown.show.formations[line.values[0]].body, cues)
+            cost = costs(flown, flown.show.formations[line.name].body, cues)
             ways = dealt(cost)
             # With a sum of nothing each drone would stay where it is.
             out += [line] if any(j != k for k, j in ways.items()) and total(cost, ways) > 0 else []

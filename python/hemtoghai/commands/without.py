@@ -38,23 +38,23 @@ class Editor:
     def drop_drones(self) -> None:
         """Drops the drones, their places and their acts outside figures, and what is left empty."""
         emptied = {name for name, formation in self.show.formations.items()
-                   if all(place.values[0] in self.gone for place in formation.body)}
+                   if all(place.name in self.gone for place in formation.body)}
         for block in self.show.top.body:
             named = ("drone", "at") if block.kind == "figure" else ("drone", "at", "act")
             for line in [block, *choreo.inside(block)]:
                 names = self.gone if line.kind in named else emptied if line.kind in ("formation", "form") else ()
-                if line.values[0] in names:
+                if line.name in names:
                     self.drop(line)
 
     def change_performs(self) -> None:
         """Takes the drones out of performs, and their roles out of figures."""
         performs = [line for line in choreo.inside(self.show.top) if line.kind == "perform"]
         for name, figure in self.show.figures.items():
-            roles = figure.values[1:]
+            roles = figure.roles
             cast: dict[tuple[str, ...], list[choreo.Line]] = {}
             for line in performs:
-                if line.values[0] == name:
-                    lost = tuple(role for role, player in zip(roles, line.values[6:]) if player in self.gone)
+                if line.name == name:
+                    lost = tuple(role for role, player in zip(roles, line.players) if player in self.gone)
                     cast.setdefault(lost, []).append(line)
             for lost, lines in cast.items():
                 if lost:
@@ -65,8 +65,8 @@ class Editor:
 
     def cut_figure(self, figure: choreo.Line, name: str, lost: set[str]) -> None:
         """A figure without some roles: in its own place, or under a new name once more after itself."""
-        roles = [role for role in figure.values[1:] if role not in lost] or [IDLE]
-        acts = {line.number for line in choreo.inside(figure) if line.kind == "act" and line.values[0] in lost}
+        roles = [role for role in figure.roles if role not in lost] or [IDLE]
+        acts = {line.number for line in choreo.inside(figure) if line.kind == "act" and line.name in lost}
         head = with_words(self.lines[figure.number - 1], " ".join(["figure", name, *roles]))
         rows = [[head]] + [[] if number in acts else [self.lines[number - 1]]
                            for number in range(figure.number + 1, figure.last + 1)]
@@ -78,7 +78,7 @@ class Editor:
 
     def cut_perform(self, line: choreo.Line, name: str) -> None:
         """A perform of a figure without the roles of drones that are gone."""
-        players = [player for player in line.values[6:] if player not in self.gone] or self.left[:1]
+        players = [player for player in line.players if player not in self.gone] or self.left[:1]
         words = line_in(self.show.form, "perform", name, *line.values[1:6], *players)
         self.rows[line.number - 1] = [with_words(self.lines[line.number - 1], words)]
 

@@ -95,6 +95,21 @@ class Line:
         self.number, self.kind, self.values, self.last = number, kind, values, number
         self.body: list[Line] = []
 
+    @property
+    def name(self) -> Any:
+        """Whose line it is: a drone's or a role's, a formation's or a figure's."""
+        return self.values[0]
+
+    @property
+    def roles(self) -> list[str]:
+        """The roles of a figure."""
+        return self.values[1:]
+
+    @property
+    def players(self) -> list[str]:
+        """The drones or roles that perform a figure."""
+        return self.values[6:]
+
 
 def is_name(word: str) -> bool:
     return re.fullmatch("[a-z][a-z0-9_]{0,15}", word) is not None and word not in ("form", "end")
@@ -222,10 +237,10 @@ class Show:
 
     def __init__(self, top: Line) -> None:
         def firsts(kind: str) -> dict[str, Line]:
-            return {line.values[0]: line for line in reversed(top.body) if line.kind == kind}
+            return {line.name: line for line in reversed(top.body) if line.kind == kind}
         self.top, self.form = top, top.values[0]
         self.drones = [line for line in top.body if line.kind == "drone"]
-        self.names = [line.values[0] for line in self.drones]
+        self.names = [line.name for line in self.drones]
         self.body = [line for line in top.body if line.kind in PLAYED]
         self.formations, self.figures = firsts("formation"), firsts("figure")
         self.settings: dict[str, list[int]] = {
@@ -245,14 +260,14 @@ def faults_of_declarations(show: Show, drones: set[str]) -> Iterator[tuple[int, 
     for kind, row in (("drone", "drone"), ("formation", "formation, figure"), ("figure", "formation, figure")):
         lines = [line for line in show.top.body if line.kind == kind]
         for k, line in enumerate(lines):
-            if any(line.values[0] == other.values[0] for other in lines[:k]):
+            if any(line.name == other.name for other in lines[:k]):
                 yield line.number, "double-name " + row
-            if kind == "figure" and len(set(line.values[1:])) < len(line.values[1:]):
+            if kind == "figure" and len(set(line.roles)) < len(line.roles):
                 yield line.number, "double-name role"
             for j, place in enumerate(line.body if kind == "formation" else []):
-                if place.values[0] not in drones:
+                if place.name not in drones:
                     yield place.number, "unknown-name at"
-                if any(place.values[0] == other.values[0] for other in line.body[:j]):
+                if any(place.name == other.name for other in line.body[:j]):
                     yield place.number, "double-act at"
 
 
@@ -260,7 +275,7 @@ def faults_of_cue(show: Show, cue: Line, known: set[str], in_figure: bool) -> It
     acted: set[str] = set()
     formed: set[str] = set()
     for line in cue.body:
-        name = line.values[0]
+        name = line.name
         if line.kind == "act":
             if name not in known:
                 yield line.number, "unknown-name act in a figure" if in_figure else "unknown-name act"
@@ -270,14 +285,14 @@ def faults_of_cue(show: Show, cue: Line, known: set[str], in_figure: bool) -> It
         elif name not in show.formations:
             yield line.number, "unknown-name form"
         else:
-            places = {place.values[0] for place in show.formations[name].body}
+            places = {place.name for place in show.formations[name].body}
             if places & (acted | formed):
                 yield line.number, "double-act form"
             formed |= places
 
 
 def faults_of_perform(show: Show, line: Line, drones: set[str]) -> Iterator[tuple[int, str]]:
-    figure, players = show.figures.get(line.values[0]), line.values[6:]
+    figure, players = show.figures.get(line.name), line.players
     if figure is None:
         yield line.number, "unknown-name figure"
     elif len(players) != len(figure.values) - 1:
@@ -292,7 +307,7 @@ def faults_of_names(show: Show) -> Iterator[tuple[int, str]]:
     drones = set(show.names)
     yield from faults_of_declarations(show, drones)
     for block in show.top.body:
-        known = set(block.values[1:]) if block.kind == "figure" else drones
+        known = set(block.roles) if block.kind == "figure" else drones
         for line in [block, *inside(block)]:
             if line.kind == "cue":
                 yield from faults_of_cue(show, line, known, block.kind == "figure")
@@ -304,7 +319,7 @@ def count(show: Show, lines: list[Line]) -> int:
     """How many cues some lines stand for."""
     total = 0
     for line in lines:
-        body = show.figures[line.values[0]].body if line.kind == "perform" else line.body
+        body = show.figures[line.name].body if line.kind == "perform" else line.body
         total += 1 if line.kind == "cue" else count(show, body) * (line.values[0] if line.kind == "repeat" else 1)
     return total
 
@@ -376,13 +391,13 @@ def written_out(show: Show, lines: list[Line], frame: Sequence[Any] = ("none", 0
                 yield from written_out(show, line.body, frame, players,
                                        (*within, ("repeat", line.number, turn, line.values[0])))
         elif line.kind == "perform":
-            figure = show.figures[line.values[0]]
-            yield from written_out(show, figure.body, line.values[1:6], dict(zip(figure.values[1:], line.values[6:])),
-                                   (*within, ("perform", line.number, line.values[0])))
+            figure = show.figures[line.name]
+            yield from written_out(show, figure.body, line.values[1:6], dict(zip(figure.roles, line.players)),
+                                   (*within, ("perform", line.number, line.name)))
         else:
             acts, places = {}, {}
             for inner in line.body:
-                formed = show.formations[inner.values[0]].body if inner.kind == "form" else [inner]
+                formed = show.formations[inner.name].body if inner.kind == "form" else [inner]
                 for place in formed:
                     name, *numbers = place.values
                     act = inner.values[1] if place is not inner else numbers.pop(0)

@@ -290,8 +290,8 @@ def alone_row(at: Around) -> Row | None:
     """The row of a line of a cue that has a name and no act."""
     if not in_cue(at) or len(at.words) != 1:
         return None
-    figures = [block.values[1:] for block in at.blocks if block.kind == "figure"]
-    names = figures[0] if figures else [line.values[0] for line in at.blocks[0].body if line.kind == "drone"]
+    figures = [block.roles for block in at.blocks if block.kind == "figure"]
+    names = figures[0] if figures else [line.name for line in at.blocks[0].body if line.kind == "drone"]
     if names and at.words[0] not in names:
         near = nearest(at.words[0], [*names, "end"])
         cure = "`end`" if near == "end" else f"`{near or names[0]}` and its act, or `end` to close the cue"
@@ -357,7 +357,7 @@ def open_row(text: bytes) -> Row | None:
 def earlier(show: choreo.Show, number: int, kinds: Sequence[str], name: str) -> Line | None:
     """The first line before another one that has this name and is of one of these kinds."""
     return next((line for line in show.top.body if line.kind in kinds and line.number < number
-                 and line.values[0] == name), None)
+                 and line.name == name), None)
 
 
 def line_at(show: choreo.Show, number: int) -> tuple[Line, list[Line]]:
@@ -374,16 +374,16 @@ def line_at(show: choreo.Show, number: int) -> tuple[Line, list[Line]]:
 
 def unknown_row(show: choreo.Show, line: Line, inside: list[Line], row: str) -> Row:
     """The row of a name that nothing has."""
-    name, drones = line.values[0], show.names
+    name, drones = line.name, show.names
     if row in ("unknown-name form", "unknown-name figure"):
         kind, known = ("formation", show.formations) if row.endswith("form") else ("figure", show.figures)
         return [f"no {kind} is called `{name}`", "", meant(name, list(known), kind)]
     if row == "unknown-name act in a figure":
-        roles, figure = inside[0].values[1:], inside[0].values[0]
+        roles, figure = inside[0].roles, inside[0].name
         cause = f"a drone's name inside the figure `{figure}`" if name in drones else ""
         return [f"no role of the figure `{figure}` is called `{name}`", cause, meant(name, roles, "role")]
     if row == "unknown-name performer":
-        name = next(it for it in line.values[6:] if it not in drones)
+        name = next(it for it in line.players if it not in drones)
     what = {"unknown-name at": ", which has a place here", "unknown-name performer": ", which shall perform"}.get(row, "")
     if not what and name in ("all", "everyone", "each"):
         return [f"no drone is called `{name}`", "", f"write a line for each drone: {names_listed(drones)}"]
@@ -393,20 +393,20 @@ def unknown_row(show: choreo.Show, line: Line, inside: list[Line], row: str) -> 
 
 def doubled_row(at: Around, show: choreo.Show, line: Line, inside: list[Line], row: str) -> Row | None:
     """The row of a drone that gets a second act or place: with the line of the first."""
-    name = line.values[0]
+    name = line.name
     if row == "double-act perform":
-        names = line.values[6:]
+        names = line.players
         name = next(it for k, it in enumerate(names) if it in names[:k])
         return [f"`{name}` stands twice in this `perform`", "", "give each role another drone"]
     others = [it for it in inside[-1].body if it.number < line.number]
     if row == "double-act at":
-        first = next(it for it in others if it.values[0] == name)
+        first = next(it for it in others if it.name == name)
         return [f"line {first.number} has a place for `{name}` already: {at.line(first.number)}", "",
                 "keep one of the two"]
-    mine = {place.values[0] for place in show.formations[name].body} if row == "double-act form" else {name}
+    mine = {place.name for place in show.formations[name].body} if row == "double-act form" else {name}
     for first in others:
-        its = {first.values[0]} if first.kind == "act" else {
-            place.values[0] for place in show.formations[first.values[0]].body}
+        its = {first.name} if first.kind == "act" else {
+            place.name for place in show.formations[first.name].body}
         if mine & its:
             who = sorted(mine & its)
             return [f"line {first.number} has an act for `{who[0]}` already: {at.line(first.number)}",
@@ -417,16 +417,16 @@ def doubled_row(at: Around, show: choreo.Show, line: Line, inside: list[Line], r
 
 def named_row(at: Around, show: choreo.Show, line: Line, row: str) -> Row | None:
     """The row of a name that stands twice, or of a figure with another number of roles."""
-    name = line.values[0]
+    name = line.name
     if row == "double-name role":
-        roles = line.values[1:]
+        roles = line.roles
         name = next(it for k, it in enumerate(roles) if it in roles[:k])
         return [f"the role `{name}` stands twice in this figure", "", "give each role a name of its own"]
     if row.startswith("double-name"):
         first = earlier(show, line.number, [line.kind], name)
         return None if first is None else [f"line {first.number} has the name already: {at.line(first.number)}",
                                            "a line was copied", f"give this {line.kind} another name"]
-    roles, drones = show.figures[name].values[1:], line.values[6:]
+    roles, drones = show.figures[name].roles, line.players
     return [f"the figure `{name}` has {len(roles)} role{'s' * (len(roles) != 1)} ({names_listed(roles)}), and here "
             f"{'is' if len(drones) == 1 else 'are'} {len(drones)} drone{'s' * (len(drones) != 1)}", "",
             "name as many drones as the figure has roles"]
@@ -457,9 +457,9 @@ def show_row(text: bytes, word: str) -> Row | None:
         show = choreo.Show(choreo.read(text))
         if word == "no-cue" and show.figures:
             figure = next(iter(show.figures.values()))
-            return [f"nothing is flown: the figure `{figure.values[0]}` is never performed", "",
-                    f"write `perform {figure.values[0]} none 0 0 0 0` and the drones of its roles: "
-                    f"{names_listed(figure.values[1:])}"]
+            return [f"nothing is flown: the figure `{figure.name}` is never performed", "",
+                    f"write `perform {figure.name} none 0 0 0 0` and the drones of its roles: "
+                    f"{names_listed(figure.roles)}"]
         if word == "too-many-cues":
             total = sum(choreo.count(show, [line]) for line in show.body)
             return [f"the show has {total} cues, repeats and figures written out, and may have {choreo.MOST_CUES}", "",

@@ -93,7 +93,7 @@ def in_figure(lines: list[bytes], line: int, opened: list[choreo.Line], form: in
     """By role where it is at a line of a figure, in the figure's own frame: the figure is flown by drones of its roles'
     names, each of which begins where its first line puts it, else a metre above the origin."""
     figure = opened[0]
-    roles = [word for word in figure.values[1:] if choreo.is_name(word)][:choreo.MOST_DRONES]
+    roles = [word for word in figure.roles if choreo.is_name(word)][:choreo.MOST_DRONES]
     inner = [b"" if number == figure.number else it
              for number, it in enumerate(before(lines, line, opened), 1) if number >= figure.number]
     begins = [line_in(form, "drone", role, *START).encode() for role in dict.fromkeys(roles)]
@@ -111,7 +111,7 @@ def acts_in(block: choreo.Line) -> list[choreo.Line]:
 
 
 def names_declared(top: choreo.Line, kind: str) -> list[str]:
-    return [line.values[0] for line in top.body if line.kind == kind and line.values]
+    return [line.name for line in top.body if line.kind == kind and line.values]
 
 
 def places_at(text: bytes, line: int) -> dict[str, object]:
@@ -131,11 +131,11 @@ def places_at(text: bytes, line: int) -> dict[str, object]:
         flown = read([*flown_before, *later]) or read(flown_before)
         places, exact = (ends_of(flown), True) if flown else (starts_of(lines, form), False)
     acts = acts_in(opened[-1]) if where in ("cue", "formation") else []
-    has_lines = [line.values[0] if where == "formation" else line.kind for line in acts if line.kind != "form"]
+    has_lines = [line.name if where == "formation" else line.kind for line in acts if line.kind != "form"]
     if where == "cue" and opened[0].kind != "figure":
-        names = {line.values[0] for line in acts if line.kind == "form"}
-        has_lines += [place.values[0] for it in choreo.inside(top) if it.kind == "formation" and it.values
-                      and it.values[0] in names for place in it.body if place.kind == "at" and place.values]
+        names = {line.name for line in acts if line.kind == "form"}
+        has_lines += [place.name for it in choreo.inside(top) if it.kind == "formation" and it.values
+                      and it.name in names for place in it.body if place.kind == "at" and place.values]
     return {"where": where, "in_figure": bool(opened) and opened[0].kind == "figure", "exact": exact,
             "drones": [[name, *place] for name, place in places.items()], "acted": has_lines,
             "formations": names_declared(top, "formation"), "figures": names_declared(top, "figure")}

@@ -65,7 +65,7 @@ def refused(text: bytes, program: str) -> tuple[int, str]:
 
 def formed_lines(flown: choreo.Flown, cue: choreo.Cue) -> list[list[int]]:
     """The lines that stand for a cue, its own and those of performs and formations, as (first, last)."""
-    forms = [flown.show.formations[line.values[0]] for line in cue.line.body if line.kind == "form"]
+    forms = [flown.show.formations[line.name] for line in cue.line.body if line.kind == "form"]
     return [[line.number, line.last] for line in [cue.line, *forms]] + [
         [number, number] for kind, number, *_ in cue.within if kind == "perform"]
 
@@ -187,7 +187,7 @@ def put_remedies(text: bytes, deep: int, program: str) -> None:
 def put_formed(text: bytes) -> None:
     """Writes the names of the formations that are formed, in their order."""
     flown = choreo.flown_of(choreo.parts_of(text)[0])
-    for name in dict.fromkeys(line.values[0] for line, _ in form_lines(flown)):
+    for name in dict.fromkeys(line.name for line, _ in form_lines(flown)):
         put("formed", name=name)
 
 

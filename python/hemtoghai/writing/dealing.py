@@ -26,7 +26,7 @@ def form_lines(flown: choreo.Flown) -> list[tuple[choreo.Line, list[int]]]:
 
 def costs(flown: choreo.Flown, places: Sequence[choreo.Line], cues: list[int]) -> list[list[int]]:
     """For each place's drone and each place the sum of the squared ways to it over these cues, in micrometres."""
-    drones = [flown.names.index(place.values[0]) for place in places]
+    drones = [flown.names.index(place.name) for place in places]
     goals = [place.values[1:4] for place in places]
     begins = [[[1000 * row[0] for row in flown.by_cue[drone][cue][1][:3]] for cue in cues] for drone in drones]
     return [[sum((a - b) ** 2 for at in ats for a, b in zip(at, goal)) for goal in goals] for ats in begins]
@@ -49,23 +49,23 @@ class Place(choreo.Line):
 
     def __init__(self, line: choreo.Line) -> None:
         super().__init__(line.number, "at", list(line.values))
-        self.owner: str = line.values[0]
-        self.written: str = line.values[0]
+        self.owner: str = line.name
+        self.written: str = line.name
 
 
 def on_their_own(flown: choreo.Flown) -> None:
     """Gives each `form` line a formation of its own, with the places as they are written."""
     for line, _ in form_lines(flown):
-        old = flown.show.formations[line.values[0]]
+        old = flown.show.formations[line.name]
         new = choreo.Line(old.number, "formation", list(old.values))
         new.body += [Place(place) for place in old.body]
         line.values[0] = str(line.number)  # which no name is
-        flown.show.formations[line.values[0]] = new
+        flown.show.formations[line.name] = new
 
 
 def places_of(flown: choreo.Flown, line: choreo.Line) -> list[Place]:
     """The places of a `form` line that has a formation of its own."""
-    return [place for place in flown.show.formations[line.values[0]].body if isinstance(place, Place)]
+    return [place for place in flown.show.formations[line.name].body if isinstance(place, Place)]
 
 
 def naming_lines(flown: choreo.Flown) -> list[choreo.Line]:
@@ -90,7 +90,7 @@ def performers(flown: choreo.Flown, lost: set[int] | None = None) -> list[dict[s
         out.append(plays)
         for line in cue.line.body:
             if line.kind == "form":
-                plays = {**plays, **{place.owner: place.values[0] for place in places_of(flown, line)}}
+                plays = {**plays, **{place.owner: place.name for place in places_of(flown, line)}}
                 if len(set(plays.values())) < len(plays):
                     plays = {name: name for name in flown.names}
                     if lost is not None:
@@ -122,7 +122,7 @@ def carry(flown: choreo.Flown, written: dict[int, list[str]]) -> list[int]:
 
 def settle(places: list[Place]) -> None:
     """Puts each drone into the line that was written for it, as far as there is one."""
-    held = {place.values[0]: (place.owner, place.values) for place in places}
+    held = {place.name: (place.owner, place.values) for place in places}
     written = {place.written for place in places}
     others = [name for name in held if name not in written]
     for place in places:
@@ -161,8 +161,8 @@ def deal(flown: choreo.Flown, keep: Collection[str]) -> Dealt:
 
 def deal_line(made: Dealt, line: choreo.Line, cues: list[int], keep: Collection[str]) -> bool:
     """Deals the places at a `form` line; whether something changed."""
-    formation = made.flown.show.formations[line.values[0]]
-    if formation.values[0] in keep:
+    formation = made.flown.show.formations[line.name]
+    if formation.name in keep:
         return False
     places, before, plays = places_of(made.flown, line), words_of(formation), performers(made.flown)
     # The places are those of the drones that stand where the ones with places were to stand; where these differ from
@@ -195,7 +195,7 @@ def words_of(formation: choreo.Line) -> list[Words]:
 def state(flown: choreo.Flown) -> list[State]:
     out = []
     for line, cues in form_lines(flown):
-        formation = flown.show.formations[line.values[0]]
+        formation = flown.show.formations[line.name]
         cost = costs(flown, formation.body, cues)
         out.append((total(cost), sum(cost[k][k] == 0 for k in range(len(cost))), words_of(formation)))
     return out

@@ -73,10 +73,10 @@ def acts_of(flown: choreo.Flown, lines: list[bytes], cue: int,
     numbers = {flown.cues[cue].acts[name][0]: name for name in names if name in flown.cues[cue].acts}
     for line in flown.cues[cue].line.body:
         if line.kind == "form" and line.number in numbers:
-            for place in flown.show.formations[line.values[0]].body:
-                words = line_in(flown.show.form, "act", place.values[0], line.values[1], *place.values[1:])
-                if place.values[0] in names:
-                    own[place.values[0]] = words.split()
+            for place in flown.show.formations[line.name].body:
+                words = line_in(flown.show.form, "act", place.name, line.values[1], *place.values[1:])
+                if place.name in names:
+                    own[place.name] = words.split()
                 else:
                     others.append(words.encode())
         elif line.number in numbers:
