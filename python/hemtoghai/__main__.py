@@ -17,8 +17,8 @@ from hemtoghai import program, streams
 
 COMMANDS = {
     **{word: "hemtoghai.commands." + word for word in (
-        "bridge", "convert", "deal", "export", "figures", "flown", "fly", "judge", "legs", "picture", "studio", "summary",
-        "why", "without")},
+        "bridge", "convert", "deal", "export", "figures", "flown", "fly", "judge", "legs", "picture", "studio",
+        "summary", "why", "without")},
     **{word: "hemtoghai.dev." + word for word in ("library", "manual", "release")},
     "import": "hemtoghai.commands.importing",
     "studio_work": "hemtoghai.seeing.studio_work",  # a process of the studio

@@ -58,7 +58,8 @@ def whole(what: str, least: int, most: int) -> Callable[[str], int]:
 
 
 def add_depth(words: argparse.ArgumentParser, text: str = "as for check: 0 to 8, without it 6") -> None:
-    words.add_argument("--depth", type=whole("the depth is %d to %d", 0, 8), default=choreo.DEPTH, metavar="D", help=text)
+    words.add_argument("--depth", type=whole("the depth is %d to %d", 0, 8), default=choreo.DEPTH, metavar="D",
+                       help=text)
 
 
 def read_front(path: str, most: int) -> bytes:

@@ -217,7 +217,8 @@ CAUTION = re.compile(r"line (\d+), (?:cue (\d+)|the end): (\S+) ")
 def cautions_of(text: bytes) -> tuple[Caution, ...]:
     """What no drone flies of an accepted show."""
     flown, out = choreo.flown_of(text), []
-    motion, low, small = flyable.motion_if_known(program.PROGRAM, flown, text), flyable.below(flown), flyable.small(flown)
+    motion = flyable.motion_if_known(program.PROGRAM, flown, text)
+    low, small = flyable.below(flown), flyable.small(flown)
     floor = None if low or small else flyable.on_floor(flown)
     for kind, words in (("motion", motion), ("low", low), ("small", small), ("floor", floor),
                         ("stacked", flyable.stacked(flown)), ("still", flyable.still(flown))):

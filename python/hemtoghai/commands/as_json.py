@@ -219,8 +219,9 @@ def by_summary(words: list[str]) -> int:
             "drones": [drone_data(flown, k, places, motions) for k in range(len(flown.names))], "instants": places,
             "cues": cues, "pairs": [pair_data(flown, *row) for row in pairs], "pairs_maybe_nearer": left_out}
     if options.margin:
-        more["margin"] = None if companion.no_program() else {"ellipsoid_percent" if word == "ellipsoid" else word: most
-                                                              for word, most, _ in margins_of(flown, text, options.depth)}
+        more["margin"] = None if companion.no_program() else {
+            "ellipsoid_percent" if word == "ellipsoid" else word: most
+            for word, most, _ in margins_of(flown, text, options.depth)}
     return put("summary", verdict, **more)
 
 

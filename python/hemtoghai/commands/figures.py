@@ -9,7 +9,8 @@
 end of a show, for all drones or for those that are named, from where each is then: `turn` takes them around a point by
 any angle, with --rise on a helix, and `wave` takes them up and down one after another. All begin and end at rest. The
 cues are `curve` lines, so many that no curve is off its figure by more than 1 mm; standard error says by how much, how
-long it lasts, and what `check` says of the new show. python/hemtoghai/writing/figures.py has more figures, for programs.
+long it lasts, and what `check` says of the new show. python/hemtoghai/writing/figures.py has more figures, for
+programs.
 
 Lengths, angles and times have a unit, as in a show: 1.2m, 50cm, 360deg, 12s. Without --time no drone is faster than
 0.8 m/s. The status is that of `check`. 2: wrong words. 3: the show is faulty. 70: no answer.

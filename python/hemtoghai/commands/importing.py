@@ -2,7 +2,7 @@
 
     ./show import SHOW.skyc > SHOW.choreo             Skybrush
     ./show import A.csv B.csv .. > SHOW.choreo        uav_trajectories: a drone a file, a duration and 32 numbers a row
-    ./show import --waypoints A.csv .. > SHOW.choreo  t,x,y,z[,yaw] a row: seconds, metres, degrees; maybe a drone column
+    ./show import --waypoints A.csv .. > SHOW.choreo  t,x,y,z[,yaw] a row: seconds, metres, degrees; maybe the drone
     ./show import SHOW.zip > SHOW.choreo              a zip of such CSV files, or of a show.json
     ./show import --judge SHOW.skyc                   is the show of the file apart, at every instant?
 

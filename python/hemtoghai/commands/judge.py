@@ -391,7 +391,8 @@ def certificate_of(path: str) -> Certificate:
     return Certificate(int(head[-1]), words, trees, version)
 
 
-def is_right(nodes: Iterable[str], first: list[Curve], second: list[Curve], depth: int, rulers: dict[str, Ruler]) -> bool:
+def is_right(nodes: Iterable[str], first: list[Curve], second: list[Curve], depth: int,
+             rulers: dict[str, Ruler]) -> bool:
     """Whether a tree shows two drones to be apart while they fly these curves."""
     stack = [([[v - u for u, v in zip(raised(a), raised(b))] for a, b in zip(first, second)], 0)]
     for node in nodes:

@@ -210,8 +210,8 @@ class Watch:
 
 
 def prove(below: Crates, most: int, rooms: str, watch: Watch) -> None:
-    """Proves all crates but the last, lower ones first, side by side. While `rt` works on a crate it keeps others out of
-    its folder and of all below it, so each is proved in a folder apart, which the next one then takes over."""
+    """Proves all crates but the last, lower ones first, side by side. While `rt` works on a crate it keeps others out
+    of its folder and of all below it, so each is proved in a folder apart, which the next one then takes over."""
     waiting, done = [crate for crate in in_order(below) if crate != LAST], set[str]()
     running: dict[str, tuple[subprocess.Popen[bytes], str]] = {}
     free = [os.path.join(rooms, str(number)) for number in range(most)]
@@ -245,8 +245,8 @@ def prove(below: Crates, most: int, rooms: str, watch: Watch) -> None:
 
 
 def build(words: list[str], files: list[str]) -> None:
-    """Proves and builds the program, where it isn't there as these sources make it. The first time the answer to `check`
-    of a file is told before that, unproved."""
+    """Proves and builds the program, where it isn't there as these sources make it. The first time the answer to
+    `check` of a file is told before that, unproved."""
     below = crates_below(LAST)
     if is_current(below):
         return

@@ -1,5 +1,5 @@
-"""The completion of ./show and of `hemtoghai`, for Bash, Zsh and Fish: all words, their options, and the words of which an
-option takes one. Made from the table of commands, and from what each tool reads."""
+"""The completion of ./show and of `hemtoghai`, for Bash, Zsh and Fish: all words, their options, and the words of which
+an option takes one. Made from the table of commands, and from what each tool reads."""
 from __future__ import annotations
 
 import argparse
@@ -148,7 +148,8 @@ complete -o filenames -F _show show ./show hemtoghai
 
 def filled(words: list[Word], case: str, first: str, choice: str) -> tuple[str, str, str]:
     """All words in a row, and by these forms a line for the options of each word and one for those of few choices."""
-    cases = [case % (it.name, " ".join(option.name for option in it.options), first % " ".join(it.first) if it.first else "")
+    cases = [case % (it.name, " ".join(option.name for option in it.options),
+                     first % " ".join(it.first) if it.first else "")
              for it in words]
     few = [choice % (it.name, option.name, " ".join(option.choices))
            for it in words for option in it.options if option.choices]

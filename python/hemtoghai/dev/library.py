@@ -73,8 +73,8 @@ def said(*words: str, place: str = TOP) -> str:
 
 
 def watched(*words: str, place: str, doing: str, every: float = 60) -> str:
-    """What a command says that may take long. A line tells that it begins, and one each minute how far it is, by its last
-    line. It is ended where this tool is; where it fails the tool ends with all that it said."""
+    """What a command says that may take long. A line tells that it begins, and one each minute how far it is, by its
+    last line. It is ended where this tool is; where it fails the tool ends with all that it said."""
     tell(tool_name(), doing)
     begun = told = time.monotonic()
     process = None
@@ -135,7 +135,7 @@ def over_kept(room: str) -> Optional[tuple[str, str]]:
     kept = rt.Kept(crates)
     for below in crate.below():
         if not kept.give(below, False, kept.key(below)):
-            tell(tool_name(), "nothing is taken from `rt ci`: it has not proved %s as it is on this machine" % below.name)
+            tell(tool_name(), f"nothing is taken from `rt ci`: it has not proved {below.name} as it is on this machine")
             return None
         kept.is_built(below)
     archive = os.path.join(crate.folder, "out", ARCHIVE)

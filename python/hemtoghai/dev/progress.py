@@ -79,9 +79,10 @@ class Progress:
         self.took[crate] = time.monotonic() - self.begun.pop(crate)
 
     def pace(self) -> float:
-        """Seconds of the clock for one of the table. A crate that ended at once was kept from earlier, and says nothing;
-        one that takes longer than it should says so before it ends. A minute of the table counts as if this machine had
-        kept to it, so that the first small crates, most of whose time is the start of `rt`, don't decide alone."""
+        """Seconds of the clock for one of the table. A crate that ended at once was kept from earlier, and says
+        nothing; one that takes longer than it should says so before it ends. A minute of the table counts as if this
+        machine had kept to it, so that the first small crates, most of whose time is the start of `rt`, don't decide
+        alone."""
         took = {crate: it for crate, it in self.took.items() if it > self.cost[crate] / 5}
 
         def pace() -> float:

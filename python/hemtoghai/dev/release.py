@@ -139,10 +139,6 @@ def archive(name: str, contents: Contents, links: Links, when: int) -> bytes:
     return packed[:9] + b"\xff" + packed[10:]  # the system on which it was packed: Pythons name it differently
 
 
-def print_made(path: str, count: int, data: bytes) -> None:
-    print(f"{path}: {count} files, {len(data)} bytes, sha256 {program.digest_of(data)}")
-
-
 def lacking() -> list[str]:
     """The packages that this Python lacks to make a wheel."""
     return [name for name in ("setuptools", "wheel") if subprocess.run(
@@ -186,10 +182,6 @@ def version_of(changed: bool) -> str:
     return records.version() + ("+changed" if changed else "")
 
 
-def archive_name(changed: bool) -> str:
-    return "hemtoghai-%s%s-x86_64-linux%s" % (records.version(), "-changed" if changed else "", PACKED)
-
-
 def main(words: list[str]) -> int:
     reader = parser(__doc__)
     reader.add_argument("--out", default=".", metavar="FOLDER", help="the folder of the archive; without it this one")
@@ -199,7 +191,8 @@ def main(words: list[str]) -> int:
     record, changed = judged_record(options.changed), git("status", "--porcelain") != ""
     if not re.fullmatch(r"\d+\.\d+\.\d+", records.version()):
         stop("VERSION isn't a version: three numbers with points between them")
-    name, wheel = archive_name(changed), WHEEL % version_of(changed)
+    name = f"hemtoghai-{records.version()}{'-changed' * changed}-x86_64-linux{PACKED}"
+    wheel = WHEEL % version_of(changed)
     missing = lacking()
     outputs.refuse((os.path.join(options.out, it) for it in [name, *[wheel] * (not missing)]), options.force, [])
     contents = contents_of()
@@ -212,7 +205,7 @@ def main(words: list[str]) -> int:
         made[wheel] = wheel_for(record, contents, changed)
     outputs.write_below(options.out, {it: data for it, (_, data) in made.items()}, options.force)
     for it, (count, data) in made.items():
-        print_made(os.path.join(options.out, it), count, data)
+        print(f"{os.path.join(options.out, it)}: {count} files, {len(data)} bytes, sha256 {program.digest_of(data)}")
     if missing:
         print(f"no wheel was made: {sys.executable} has no {' and no '.join(missing)} (python3-setuptools and "
               "python3-wheel of Debian)")

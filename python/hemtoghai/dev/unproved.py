@@ -1,6 +1,6 @@
-"""The words of the companions over the sources without a proof: for `./show --unproved WORD ..`. The program of the sources
-is made where it isn't there, and asked in the place of the proved one until this process ends; its record says nothing of
-a proof. No real drone is flown so, and nothing is released."""
+"""The words of the companions over the sources without a proof: for `./show --unproved WORD ..`. The program of the
+sources is made where it isn't there, and asked in the place of the proved one until this process ends; its record says
+nothing of a proof. No real drone is flown so, and nothing is released."""
 from __future__ import annotations
 
 import os
@@ -26,7 +26,8 @@ def fault(words: list[str]) -> str | None:
 
 
 def take(word: str) -> None:
-    """Has the program of the sources without a proof be asked from now on, and made before that where it isn't there."""
+    """Has the program of the sources without a proof be asked from now on, and made before that where it isn't
+    there."""
     if word != "studio_work":  # a process of the studio, which said so
         launcher.say("nothing is proved in this run")
     if launcher.file_if_current(program.UNPROVED) is None:

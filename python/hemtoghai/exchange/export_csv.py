@@ -64,8 +64,8 @@ def main(words: list[str]) -> int:
         lines, places, yaw = lines_of(segments)
         files[name + ".csv"] = ("\n".join(lines) + "\n").encode()
         lasts = sum(segment[0] for segment in segments) / 1000
-        said.append(f"{os.path.join(options.folder, name)}.csv: {many(len(segments), 'segment')}, {lasts:.3f} s; a double may "
-                    f"differ by {float(places):.1e} m on an axis and {float(yaw):.1e} rad of yaw")
+        said.append(f"{os.path.join(options.folder, name)}.csv: {many(len(segments), 'segment')}, {lasts:.3f} s; a "
+                    f"double may differ by {float(places):.1e} m on an axis and {float(yaw):.1e} rad of yaw")
         if len(segments) > MOST_PIECES:
             said.append(f"  more than the {MOST_PIECES} segments that fit into 4,096 bytes as polynomials")
     outputs.write_below(options.folder, files, options.force)

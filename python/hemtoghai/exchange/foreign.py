@@ -505,8 +505,8 @@ LIST = re.compile(r"\[([^]]*)\]")
 
 
 def fleet_rows(text: str) -> Iterator[tuple[int, str, str, str]]:
-    """Of Crazyswarm2's crazyflies.yaml what stands below `robots`: the line, the robot, a key of it and its value. Values
-    over several lines, as a list with a line an item, are put together."""
+    """Of Crazyswarm2's crazyflies.yaml what stands below `robots`: the line, the robot, a key of it and its value.
+    Values over several lines, as a list with a line an item, are put together."""
     robots, names, name, key, value, begun = -1, -1, "", "", "", 0
     for number, whole in enumerate([*text.splitlines(), "end:"], 1):
         line = re.sub(r"(^|\s)#.*", "", whole).rstrip()
@@ -567,13 +567,9 @@ def members_of(path: str, stem: str) -> list[tuple[str, str, bytes]]:
     return [(f"{path}, {name:.60}", stem, archive.data(name)) for name, stem in zip(names, stems_of(names))]
 
 
-def stem_of(path: str) -> str:
-    return posixpath.splitext(posixpath.basename(path))[0]
-
-
 def stems_of(files: Sequence[str]) -> list[str]:
     """The names of files without their endings; of those that have one name, the names of their folders."""
-    stems = [stem_of(path) for path in files]
+    stems = [posixpath.splitext(posixpath.basename(path))[0] for path in files]
     folders = [posixpath.basename(posixpath.dirname(posixpath.abspath(path))) for path in files]
     out = list(stems)
     for stem in set(stems):

@@ -18,6 +18,6 @@ def drones_of(path: str) -> list[tuple[str, Row, list[Segment]]]:
             stop(f"{path}: {text.decode(errors='replace').strip()}", status)
     out = []
     for name, data, pieces, _ in parts_of_plan(text, path):
-        found = decoded(data, pieces) or stop(f"{path}: the bytes of {name} are no trajectory of {many(pieces, 'segment')}")
-        out.append((name, *found))
+        out.append((name, *(decoded(data, pieces) or stop(
+            f"{path}: the bytes of {name} are no trajectory of {many(pieces, 'segment')}"))))
     return out

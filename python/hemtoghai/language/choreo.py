@@ -2,8 +2,8 @@
 
 It is written from the documents alone and shares nothing with the program: lines, names and cues by docs/LANGUAGE.md,
 the order of refusals and fault lines by docs/COMMANDS.md, curves, rounding and bytes by docs/TRAJECTORY.md. All numbers
-are whole, those of `choreo 2` too once they are read. It proves nothing; where it and the program differ, one of them is
-wrong.
+are whole, those of `choreo 2` too once they are read. It proves nothing; where it and the program differ, one of them
+is wrong.
 """
 from __future__ import annotations
 

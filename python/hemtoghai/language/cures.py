@@ -154,7 +154,8 @@ def whole_row(name: str, slot: Number, counts: Counts, word: str) -> Row | None:
 
 def odd_row(name: str, word: str, number: str) -> Row | None:
     """The row of a word that is nearly a number, by the form of one without its sign: with a comma or a `+`, with its
-    unit in front, with an exponent, with two points, or a letter in place of a digit; None where it is none of these."""
+    unit in front, with an exponent, with two points, or a letter in place of a digit; None where it is none of
+    these."""
     bare = word.strip(",;:+")
     if bare != word and re.fullmatch(f"-?(?:{number})", bare):
         cause = "a `+`" if word[0] == "+" else \
@@ -229,8 +230,8 @@ def bare_row(name: str, slot: Number, counts: Counts, word: str, is_whole: bool)
 
 
 def cure_of(word: str, line: bytes, form: int = 1) -> Row | None:
-    """What a fault of a line means, its commonest cause or nothing, and its cure, by the line alone; None where there is
-    none. `form` is that of the text: choreo.form_of gives it. `cure_in` looks at the text around the line too."""
+    """What a fault of a line means, its commonest cause or nothing, and its cure, by the line alone; None where there
+    is none. `form` is that of the text: choreo.form_of gives it. `cure_in` looks at the text around the line too."""
     row = None
     if word == "range":
         row = range_row(line, form)

@@ -21,8 +21,8 @@ MOST_SHOWN = 8  # of names that are listed
 AFTER = {
     **{act: "X Y Z YAW" for act in ("line", "move")}, "hold": "", "turn": "YAW", "curve": "X Y Z X Y Z X Y Z YAW",
     **{act: "SENSE CX CY YAW" for act in ARCS}, "memory": "ID OFFSET", "trajectory": "ID", "ellipsoid": "R H",
-    "stray": "DISTANCE", "late": "TIME", "drone": "NAME X Y Z YAW", "formation": "NAME", "at": "NAME X Y Z YAW", "cue": "TIME",
-    "repeat": "COUNT", "form": "NAME line, or NAME move", "end": "",
+    "stray": "DISTANCE", "late": "TIME", "drone": "NAME X Y Z YAW", "formation": "NAME", "at": "NAME X Y Z YAW",
+    "cue": "TIME", "repeat": "COUNT", "form": "NAME line, or NAME move", "end": "",
 }
 LISTS = {"figure": ("NAME and 1 to 32 roles", 2, 33),  # after it at least and at most so many words
          "perform": ("FIGURE MIRROR TURNS DX DY DZ and 1 to 32 drones", 7, 38)}
@@ -120,8 +120,8 @@ def fixed_row(words: list[str]) -> Row | None:
             return [f"`form` takes `line` or `move`, not `{act}`", "", f"give each drone a line of its own, as "
                     f"`NAME {form_of_line(act)}`"]
         if act not in LINES["form"][1]:
-            return [f"`form` takes `line` or `move`, not `{short_word(act)}`", "", f"write `form {words[1]} move`, from "
-                    "rest to rest"]
+            return [f"`form` takes `line` or `move`, not `{short_word(act)}`", "", f"write `form {words[1]} move`, "
+                    "from rest to rest"]
     if words[1:2] and words[1] in ARCS and words[2:] and words[2] not in ("ccw", "cw"):
         return [f"the sense of `{words[1]}` is {short_word(words[2])}", "",
                 f"write `{words[1]} ccw ..` for a turn counter-clockwise as seen from above, or `{words[1]} cw ..`"]
@@ -165,7 +165,8 @@ def place_row(at: Around) -> Row | None:
         return [f"an act stands in a cue, and this line stands {at.where()}", "one `end` too many" + last_closed(at)
                 if is_cut else "", "remove that `end`" if is_cut else
                 "write `cue TIME` before it, and `end` after the acts of the cue" + (
-                    f"; or remove the `end` of line {before[0].last}, if it belongs to the cue of line {before[0].number}"
+                    f"; or remove the `end` of line {before[0].last}, if it belongs to the cue of line "
+                    f"{before[0].number}"
                     if before and before[0].kind == "cue" else "")]
     if first == "perform" and at.place != "formation":
         return [f"{what}: a figure performs no other", f"the `end` of line {at.blocks[-1].number} is missing",
@@ -259,8 +260,8 @@ def unit_row(line: bytes) -> Row | None:
 
 
 def length_row(words: list[str], may_act: bool = True) -> Row | None:
-    """The row of a line that has too many or too few words, of an act where it may be one; None where it isn't known how
-    many are wanted."""
+    """The row of a line that has too many or too few words, of an act where it may be one; None where it isn't known
+    how many are wanted."""
     is_act = may_act and words[1:] and words[1] in ACTS
     what, given = (words[1], words[2:]) if is_act else ("".join(words[:1]), words[1:])
     aside = [at for at, word in enumerate(words) if word.startswith("//")]
@@ -328,8 +329,8 @@ def block_row(at: Around, word: str) -> Row | None:
     lines = [block.number for block in at.blocks[1:]]
     if word == "double-setting":
         other = next((line for line in at.blocks[0].body if line.kind == at.words[0]), None)
-        return None if other is None else [f"line {other.number} has `{other.kind}` already: {at.line(other.number)}", "",
-                                           "keep one of the two lines"]
+        return None if other is None else [
+            f"line {other.number} has `{other.kind}` already: {at.line(other.number)}", "", "keep one of the two lines"]
     if word == "empty-block":
         return [f"the {at.place} of line {lines[-1]} has no line in it", "one `end` too many above",
                 "put a line in, or remove the block"]
@@ -384,7 +385,8 @@ def unknown_row(show: choreo.Show, line: Line, inside: list[Line], row: str) -> 
         return [f"no role of the figure `{figure}` is called `{name}`", cause, meant(name, roles, "role")]
     if row == "unknown-name performer":
         name = next(it for it in line.players if it not in drones)
-    what = {"unknown-name at": ", which has a place here", "unknown-name performer": ", which shall perform"}.get(row, "")
+    what = {"unknown-name at": ", which has a place here",
+            "unknown-name performer": ", which shall perform"}.get(row, "")
     if not what and name in ("all", "everyone", "each"):
         return [f"no drone is called `{name}`", "", f"write a line for each drone: {names_listed(drones)}"]
     return [f"no drone is called `{name}`{what}", "", meant(name, drones, "drone") +
@@ -475,7 +477,7 @@ def show_row(text: bytes, word: str) -> Row | None:
 def far_row(axis: str, value: int) -> Row:
     """The row of a value that fits into no trajectory."""
     if axis == "yaw":
-        return [f"yaw would be {value / 10:g} degrees, and may be -3276.8 to 3276.7", "yaw that grows with each turn of "
-                "a repeat", "turn back before yaw grows too far"]
-    return [f"{axis} would be {value / 1e6:g} m, and may be -32.768 to 32.767", "a figure shifted far away, or a number "
-            "in another unit", "move it nearer to the origin"]
+        return [f"yaw would be {value / 10:g} degrees, and may be -3276.8 to 3276.7",
+                "yaw that grows with each turn of a repeat", "turn back before yaw grows too far"]
+    return [f"{axis} would be {value / 1e6:g} m, and may be -32.768 to 32.767",
+            "a figure shifted far away, or a number in another unit", "move it nearer to the origin"]

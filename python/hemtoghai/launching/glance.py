@@ -27,8 +27,8 @@ def whole(word: bytes) -> bool:
 
 
 def begin_badly(text: bytes) -> bool:
-    """Whether drones may begin above each other, near to the floor, or all of them within some millimetres of the origin;
-    also where that isn't clear from lines that begin with `drone`."""
+    """Whether drones may begin above each other, near to the floor, or all of them within some millimetres of the
+    origin; also where that isn't clear from lines that begin with `drone`."""
     radius, stray, places = 120, 0, []
     for line in text.split(b"\n"):
         words = line.partition(b"#")[0].split()
@@ -49,8 +49,8 @@ ARCS = b"arc", b"swing", b"arc_in", b"arc_out"
 
 
 def may_stay(text: bytes) -> bool:
-    """Whether a drone may be at the centre of its own quarter circle: where that is a place that is written for it, or it
-    flies around several centres, or a figure has such acts."""
+    """Whether a drone may be at the centre of its own quarter circle: where that is a place that is written for it, or
+    it flies around several centres, or a figure has such acts."""
     places: dict[bytes, set[bytes]] = {}
     centres: dict[bytes, set[bytes]] = {}
     has_figure = False

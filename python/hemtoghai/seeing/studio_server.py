@@ -388,7 +388,8 @@ class Handler(BaseHTTPRequestHandler):
         for stage in self.worked(asked["text"], want="remedies"):
             words = "cue %d alone: %s (%s more)" % (stage["cue"] + 1, stage["words"], seconds(stage["takes"]))
             texts[words] = bytes_of(stage["text"])
-        self.offer(status, asked["text"], texts, "\n".join(short), "\n".join(line for line in lines if line not in short))
+        self.offer(status, asked["text"], texts, "\n".join(short),
+                   "\n".join(line for line in lines if line not in short))
 
     def worked(self, text: bytes, **more: object) -> list[dict[str, Any]]:
         """The stages that a worker writes of a text."""

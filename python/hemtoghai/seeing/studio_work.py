@@ -82,11 +82,6 @@ def lines_of(cue: choreo.Cue, names: list[str]) -> list[int]:
     return sorted(lines or {cue.number})
 
 
-def with_lines(flown: choreo.Flown, mark: Mark) -> Mark:
-    """A mark with the lines by which both drones fly."""
-    return {**mark, "lines": lines_of(flown.cues[mark["cue"]], [flown.names[k] for k in mark["pair"]])}
-
-
 def explained(flown: choreo.Flown, text: bytes, program: str, deep: int) -> dict[str, object] | None:
     """What the program's `explain` says of a show that is refused for nearness: the two whose ellipsoids share a point
     at an instant, with their cue and the instant in milliseconds, which is proved where the program is; or at how many
@@ -206,7 +201,8 @@ def put_flight(text: bytes, deep: int, program: str, answer: list[Any] | None, p
         return put_begun(text, said, path)
     flown = choreo.flown_of(choreo.parts_of(text)[0])
     found, are_all = blocked_marks(flown, text, deep, program) if status == 5 else ([], True)
-    marks = [with_lines(flown, mark) for mark in found]
+    marks: list[Mark] = [
+        {**mark, "lines": lines_of(flown.cues[mark["cue"]], [flown.names[k] for k in mark["pair"]])} for mark in found]
     first = next((mark for mark in marks if mark["named"]), None)  # the place that `check` names
     step = step_of(flown, None, MOST_PLACES)
     rows = rows_of_play(text, program, deep, step) if status == 0 else None

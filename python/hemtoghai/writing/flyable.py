@@ -74,8 +74,8 @@ def small_text(text: bytes) -> str | None:
 
 
 def on_floor(flown: Flown) -> str | None:
-    """The first drone that begins lower above z 0 than a way up leads, or ends on the floor, or None; `./show fly` brings
-    none of these up and down, if its pad is at z 0."""
+    """The first drone that begins lower above z 0 than a way up leads, or ends on the floor, or None; `./show fly`
+    brings none of these up and down, if its pad is at z 0."""
     for line, name, flight in zip(flown.show.drones, flown.names, flown.sent):
         begin, end = flight[0][1][2][0], flight[-1][1][2][-1]
         where = ("line %d, cue 1: %s begins %d mm above z 0" % (line.number, name, begin) if begin < LIFT else
@@ -100,8 +100,8 @@ def stacked(flown: Flown) -> str | None:
 
 
 def still(flown: Flown) -> str | None:
-    """The first drone and cue in which it shall fly a quarter circle around the place where it is, and so stays there; or
-    None."""
+    """The first drone and cue in which it shall fly a quarter circle around the place where it is, and so stays there;
+    or None."""
     for number, cue in enumerate(flown.cues, 1):
         for name, (line, act, to) in cue.acts.items():
             if act in choreo.ARCS and list(to[1:3]) == flown.places[flown.names.index(name)][number - 1][:2]:

@@ -1,5 +1,5 @@
-"""What helps drones that are blocked in a cue: each change is tried by the program as a show. For ./show why, its --json
-and ./show studio."""
+"""What helps drones that are blocked in a cue: each change is tried by the program as a show. For ./show why, its
+--json and ./show studio."""
 from __future__ import annotations
 
 from collections.abc import Iterator
@@ -36,8 +36,9 @@ def layers(trials: Trials, cue: int, pairs: list[tuple[int, int]]) -> Remedy | N
 
 def helps(trials: Trials, i: int, j: int, cue: int, begins_so: bool) -> tuple[list[str], list[Helped]]:
     """At which ends of a cue two drones would be blocked if they stood there, in words, of two that may be where it
-    begins; and, where at none, what helps them, tried against all others of the cue: each remedy with the names of those
-    that are still blocked. Those that help most come first, and of these the ones that make the show least longer."""
+    begins; and, where at none, what helps them, tried against all others of the cue: each remedy with the names of
+    those that are still blocked. Those that help most come first, and of these the ones that make the show least
+    longer."""
     flown, known = trials.flown, trials.helped
     stands: list[Stage] = [(1, {}), stage_of(flown, cue), (1, {})]
     standing = trials.told(cue, stands, [(i, j)]) or {} if begins_so else {}

@@ -88,7 +88,8 @@ def print_place(trials: Trials, lines: list[bytes], found: Meeting, others: list
     if found.touch:
         print("  TOO NEAR: no depth helps")
     elif found.cause:
-        print("  APART WHILE THEY FLY EXACTLY: the cause is " + (may_try and cause_of(trials, i, j, cue) or found.cause))
+        cause = may_try and cause_of(trials, i, j, cue) or found.cause
+        print(f"  APART WHILE THEY FLY EXACTLY: the cause is {cause}")
     else:
         print("  APART, BUT ALONG NO DIRECTION: none of the 98 directions shows it for a whole part%s"
               % ("; --depth 8 may do" if trials.deep < 8 and not ends else ""))

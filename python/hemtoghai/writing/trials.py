@@ -1,5 +1,5 @@
-"""What the program says of a cue that is flown otherwise: the show is written out for that, without repeats, figures and
-formations, and asked about. For ./show why and ./show studio."""
+"""What the program says of a cue that is flown otherwise: the show is written out for that, without repeats, figures
+and formations, and asked about. For ./show why and ./show studio."""
 from __future__ import annotations
 
 from collections import Counter
@@ -12,7 +12,8 @@ from hemtoghai.language.choreo import Flown
 from hemtoghai.language.lines import header, line_in
 from hemtoghai.writing.meetings import Ask, asked, Slot
 
-Stage = tuple[int, dict[str, list[str]]]  # a cue of a text in `choreo 1`: milliseconds, and by drone the words of its act
+# A cue of a text in `choreo 1`: milliseconds, and by drone the words of its act.
+Stage = tuple[int, dict[str, list[str]]]
 FORM = 1
 MOST_SLOTS = 5000000  # pairs in cues that are asked about for one show, some seconds of work
 
