@@ -32,9 +32,9 @@ from hemtoghai.language import choreo
 from hemtoghai.launching import launcher, words as commands
 from hemtoghai.program import NAME, Unusable
 from hemtoghai.seeing.sampling import look, places_in
-from hemtoghai.writing.helping import helps
 from hemtoghai.writing.margins import margins_of
 from hemtoghai.writing.meetings import ALL, MORE, PLACE
+from hemtoghai.writing.remedies import helps
 from hemtoghai.writing.trials import Trials
 
 

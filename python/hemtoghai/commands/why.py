@@ -17,10 +17,9 @@ from hemtoghai.program import COMMAND
 from hemtoghai.streams import shown
 from hemtoghai.writing.dealing import costs, dealt, form_lines, total
 from hemtoghai.writing.flyable import small
-from hemtoghai.writing.helping import cures_of, first_places, layers, MOST_CURES
 from hemtoghai.writing.meetings import Meeting, meetings_of
 from hemtoghai.writing.places import print_place
-from hemtoghai.writing.remedies import written
+from hemtoghai.writing.remedies import cures_of, first_places, layers, MOST_CURES, written
 from hemtoghai.writing.trials import Trials
 
 

@@ -39,9 +39,8 @@ from hemtoghai.seeing.studio_places import begun, places_at
 from hemtoghai.streams import NO_ANSWER
 from hemtoghai.writing.dealing import form_lines
 from hemtoghai.writing.flyable import below, MOST as FASTEST, motion_if_known, small
-from hemtoghai.writing.helping import cures_of, first_places
 from hemtoghai.writing.margins import greatest, MOST, with_setting
-from hemtoghai.writing.remedies import written
+from hemtoghai.writing.remedies import cures_of, first_places, written
 from hemtoghai.writing.trials import Trials
 
 TOOLS = "why", "deal", "fly"  # of the page's buttons

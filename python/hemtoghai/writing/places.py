@@ -7,9 +7,8 @@ from math import hypot
 from hemtoghai.companion import begins, cue_words, place, seconds
 from hemtoghai.geometry.nearest import reach_of
 from hemtoghai.language.choreo import Flown
-from hemtoghai.writing.helping import helps
 from hemtoghai.writing.meetings import Meeting
-from hemtoghai.writing.remedies import ENOUGH
+from hemtoghai.writing.remedies import ENOUGH, helps
 from hemtoghai.writing.trials import cause_of, Helped, Trials
 
 
