@@ -7,6 +7,7 @@ from itertools import combinations
 from math import comb, hypot, inf, lcm
 
 from hemtoghai.geometry.curves import halves
+from hemtoghai.geometry.paths import whole_raised
 from hemtoghai.language.choreo import Flown, Row
 
 Part = list[Row]  # on x, y and z eight control values
@@ -18,9 +19,8 @@ MOST_NEAR = 10000  # cues of pairs that are looked at closely
 
 def raised(b: Row) -> Row:
     """The eight control values of degree seven of 5,040 times a curve."""
-    n = len(b) - 1
-    return [sum(5040 // comb(7, k) * comb(n, j) * comb(7 - n, k - j) * b[j]
-                for j in range(n + 1) if 0 <= k - j <= 7 - n) for k in range(8)]
+    whole, over = whole_raised((b, 1), 7)
+    return [v * (5040 // over) for v in whole]
 
 
 def difference(first: list[Row], second: list[Row]) -> Part:
