@@ -55,6 +55,11 @@ class Shape(unittest.TestCase):
     def test_files(self):
         self.assertEqual([path for path, text in modules() if text.count("\n") > FILE], [])
 
+    def test_commands(self):
+        # What several commands use is below them: none is imported but where words become a command, and for a type.
+        found = {path for path, text in modules() if re.search(r"^ *(from|import) hemtoghai\.commands\b", text, re.M)}
+        self.assertEqual(found, {"__main__.py", "seeing/studio_server.py"})
+
     def test_oldest_python(self):
         found = [path for path, text in modules() if ast.parse(text, path, feature_version=(3, 9))]
         self.assertGreater(len(found), 90)
