@@ -25,13 +25,13 @@ from bisect import bisect_right
 from collections.abc import Iterable, Iterator, Sequence
 from itertools import combinations, islice, product
 from math import comb, gcd, isqrt
-from typing import Dict, List, NamedTuple, NoReturn, Tuple
+from typing import NamedTuple, NoReturn
 
-Rows = List[List[str]]  # lines as words
-Curve = List[int]  # its control values on an axis
-Counts = Tuple[Dict[str, int], int]
-Direction = Tuple[int, int, int]
-Ruler = Tuple[Direction, int]  # a direction's weights, and how far apart drones have to be by them
+Rows = list[list[str]]  # lines as words
+Curve = list[int]  # its control values on an axis
+Counts = tuple[dict[str, int], int]
+Direction = tuple[int, int, int]
+Ruler = tuple[Direction, int]  # a direction's weights, and how far apart drones have to be by them
 
 
 class Segment(NamedTuple):
