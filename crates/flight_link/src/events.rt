@@ -38,7 +38,7 @@ pub fn event_length(kind: u8) -> Option<usize>
     }
 }
 
-// Whether bit k of the flags is set.
+// Whether the bit of this weight is set in the flags.
 fn bit(flags: u8, weight: u8) -> bool
     requires { 0 < weight }
     ensures { result ≡ bit_at weight flags }
