@@ -1,7 +1,5 @@
 -- Dialogues over a link, computed.
-use Rattle.definition_tests.proofs.Prelude.{◌≡◌, ℕ, zero, suc, ◌<◌, ◌≤◌, ◌++◌, List, [], ◌∷◌, None, Some, ap, append-nil, arith, length, refl, take, All-cons, All-head, All-nil, All, BeginsNone, DialogueGives, Takes, items_bytes, over}
-use Rattle.flight_model.specs.declared.events.Event.{Event}
-use Rattle.flight_model.specs.declared.events.Event.TheVariants.{Clock, Seen, Answered, Said}
+use Rattle.definition_tests.proofs.Prelude.{◌≡◌, ℕ, zero, suc, ◌<◌, ◌≤◌, ◌++◌, List, [], ◌∷◌, None, Some, ap, append-nil, arith, length, refl, take, All-cons, All-head, All-nil, All, BeginsNone, DialogueGives, Takes, items_bytes, over, Event, Clock, Seen, Answered, Said}
 use Rattle.flight_link.specs.Sends.{IsBegun}
 use Rattle.definition_tests.specs.Dialogues.{DialogueRows, endless, two}
 

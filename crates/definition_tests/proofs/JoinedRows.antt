@@ -1,6 +1,5 @@
 -- Short holds, grouped.
-use Rattle.definition_tests.proofs.Prelude.{common_steps, ◌≡◌, ℕ, ◌+◌, ◌<◌, ◌≤◌, true, List, [], ◌∷◌, ◌++◌, All, length, length-append, ap, sym, ◌∙◌, arith, refl, inl, inr, sum, map, append-nil, length-map, All-cons, All-head, All-nil, All-tail, Segment, FromTheLeft, IsGroup, hold, is_hold, joined_from, GroupLaw, one_of, durations}
-use Rattle.std.specs.List.{flat_map}
+use Rattle.definition_tests.proofs.Prelude.{common_steps, ◌≡◌, ℕ, ◌+◌, ◌<◌, ◌≤◌, true, List, [], ◌∷◌, ◌++◌, All, length, length-append, ap, sym, ◌∙◌, arith, refl, inl, inr, sum, map, append-nil, length-map, All-cons, All-head, All-nil, All-tail, Segment, FromTheLeft, IsGroup, hold, is_hold, joined_from, GroupLaw, one_of, durations, flat_map}
 use Rattle.definition_tests.specs.Joined.{JoinedRows}
 
 -- a group has some segment

@@ -36,6 +36,15 @@ pub mod SmallRows
 pub mod LegRows
 pub mod HostRows
 pub mod StepRows
+pub mod FlightExampleRows
+pub mod FlightSaidRows
+pub mod FlightRejectedRows
+pub mod FlightKeptRows
+pub mod FlightWatchedRows
+pub mod FlightCoveredRows
+pub mod FlightGroupRows
+pub mod FlightRoomRows
+pub mod FlightBoundsRows
 pub mod DialogueRows
 pub mod ValueRows
 pub mod RadiusCoefficients

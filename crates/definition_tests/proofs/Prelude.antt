@@ -1,11 +1,14 @@
 -- What the proofs of this crate cite from elsewhere, passed on from one place. Declares nothing.
-pub use Rattle.std.proofs.Common.{All, Bool, Contains, List, None, Option, Some, [], ap, append-nil, arith, codes, drop, false, fold, get_or, inl, inr, length, length-append, map, min, nat_le, neg_ℤ, negsuc, pos, refl, replicate, slice_get, slice_index, slice_index_or, subst, suc, sum, sym, take, true, zero, ℕ, ℤ, ◌*ℤ◌, ◌*◌, ◌++◌, ◌+ℤ◌, ◌+◌, ◌-ℤ◌, ◌-◌, ◌<ℤ◌, ◌<◌, ◌^◌, ◌∙◌, ◌∷◌, ◌≡◌, ◌≤ℤ◌, ◌≤◌, ◌⊎◌}
+pub use Rattle.std.proofs.Common.{All, Bool, List, None, Option, Some, [], ap, append-nil, arith, codes, drop, eqb, false, fold, get_or, inl, inr, leb, length, length-append, map, min, nat_le, neg_ℤ, negsuc, not, pos, refl, replicate, slice_get, slice_index, slice_index_or, subst, suc, sum, sym, take, true, zero, ℕ, ℤ, ◌&&◌, ◌*ℤ◌, ◌*◌, ◌++◌, ◌+ℤ◌, ◌+◌, ◌-ℤ◌, ◌-◌, ◌<ℤ◌, ◌<◌, ◌^◌, ◌||◌, ◌∙◌, ◌∷◌, ◌≡◌, ◌≢◌, ◌≤ℤ◌, ◌≤◌, ◌⊎◌}
+pub use Rattle.std.proofs.lemmas.Bool.{and_parts, eq-eqb, eqb-true, le-leb, not-true}
 pub use Rattle.std.proofs.lemmas.Grind.{common_steps}
 pub use Rattle.std.proofs.lemmas.Int.{by_lt_z, ints}
-pub use Rattle.std.proofs.lemmas.List.{length-map, length-replicate}
+pub use Rattle.std.proofs.lemmas.List.{append_assoc, length-map, length-replicate}
 pub use Rattle.std.proofs.lemmas.List.Elements.{All-cons, All-head, All-nil, All-tail}
 unfoldable pub use Rattle.std.specs.Fmt.{digits}
-pub use Rattle.std.specs.Prelude.{MatchOption, String, string_bytes}
+pub use Rattle.std.specs.List.{flat_map, list_any}
+pub use Rattle.std.specs.Prelude.{Contains, MatchOption, String, string_bytes}
+unfoldable pub use Rattle.bezier_core.specs.Part.{polar}
 unfoldable pub use Rattle.bezier_core.specs.Raised.{raised_value}
 unfoldable pub use Rattle.choreo_lines.specs.Fields.{act_in, act_line, names_in, row_line, values_in}
 pub use Rattle.choreo_lines.specs.declared.table.Form.TheVariants.{Units, Whole}
@@ -27,16 +30,17 @@ unfoldable pub use Rattle.figure_expand.specs.Expanded.{expanded}
 pub use Rattle.firmware_memory.specs.Decoded.{Carries, DecodesTo, last_value}
 unfoldable pub use Rattle.fleet_curves.specs.Raised.{difference, raised_of}
 pub use Rattle.fleet_curves.specs.Raised.{AreOneShow, CurvesStandFor, curves_at}
-pub use Rattle.whole_numbers.proofs.BernsteinLemmas.{bernstein-mix, bernstein-same, bernstein-suc, bernstein-zero}
-pub use Rattle.whole_numbers.proofs.RingLemmas.{le_mul_ℤ, linear, mul_assoc_ℤ, mul_comm_ℤ, mul_not_negative, mul_zero_ℤ, one_mul_ℤ, ring, zero_mul_ℤ}
-unfoldable pub use Rattle.whole_numbers.specs.Bernstein.{bernstein}
-pub use Rattle.whole_numbers.specs.Bernstein.{at, bern}
-unfoldable pub use Rattle.whole_numbers.specs.Decoded.{decoded}
-pub use Rattle.whole_numbers.specs.Decoded.{IsPiece}
-unfoldable pub use Rattle.whole_numbers.specs.Moments.{moment}
-pub use Rattle.whole_numbers.specs.Moments.{Moment, moment_from, time_before}
-pub use Rattle.whole_numbers.specs.Sums.{power}
-unfoldable pub use Rattle.bezier_core.specs.Part.{polar}
+pub use Rattle.flight_model.proofs.Beginning.{fit-true, implied}
+pub use Rattle.flight_model.proofs.Kept.{kept_law, sent-append}
+pub use Rattle.flight_model.specs.Directors.{State, after, all_answered, all_fit, are_aloft, is_off, is_off_hold, is_outside, is_silent, next_step, sent, start}
+pub use Rattle.flight_model.specs.Example.{down_at, routes, show_at, up_at}
+pub use Rattle.flight_model.specs.Kept.{HasShow, IsHeard, IsKeptShow, time}
+pub use Rattle.flight_model.specs.Law.{AllQuiet, IsFit, IsQuiet, orders_to}
+pub use Rattle.flight_model.specs.Legs.{IsFlight, IsWay, IsWayDown, IsWayUp, goes_down, goes_up, leg, legs_of, moves, way_begins, way_ends}
+pub use Rattle.flight_model.specs.declared.events.Event.{Event}
+pub use Rattle.flight_model.specs.declared.events.Event.TheVariants.{Answered, Clock, Said, Seen}
+pub use Rattle.flight_model.specs.declared.events.Frame.TheVariants.{Over, ToAll}
+pub use Rattle.flight_model.specs.declared.events.Sample.{Sample}
 pub use Rattle.link_dialogue.specs.Dialogues.{BeginsNone, DialogueGives, StopsAtEnd, Takes, items_bytes}
 unfoldable pub use Rattle.pair_search.specs.Search.{blocked_place, first_direction}
 pub use Rattle.pair_search.specs.Search.{IsClear}
@@ -87,8 +91,18 @@ pub use Rattle.upload_model.specs.Worlds.{world}
 pub use Rattle.upload_model.specs.declared.events.WorldEvent.{WorldEvent}
 pub use Rattle.upload_model.specs.declared.events.WorldEvent.TheVariants.{Alter, Hear, Take, Tick}
 pub use Rattle.upload_model.specs.declared.loads.Def.{Def}
+pub use Rattle.whole_numbers.proofs.BernsteinLemmas.{bernstein-mix, bernstein-same, bernstein-suc, bernstein-zero}
+pub use Rattle.whole_numbers.proofs.RingLemmas.{le_mul_ℤ, linear, mul_assoc_ℤ, mul_comm_ℤ, mul_not_negative, mul_zero_ℤ, one_mul_ℤ, ring, zero_mul_ℤ}
+unfoldable pub use Rattle.whole_numbers.specs.Bernstein.{bernstein}
+pub use Rattle.whole_numbers.specs.Bernstein.{at, bern}
+unfoldable pub use Rattle.whole_numbers.specs.Decoded.{decoded}
+pub use Rattle.whole_numbers.specs.Decoded.{IsPiece}
+unfoldable pub use Rattle.whole_numbers.specs.Moments.{moment}
+pub use Rattle.whole_numbers.specs.Moments.{Moment, moment_from, time_before}
+pub use Rattle.whole_numbers.specs.Sums.{power}
 pub use Rattle.definition_tests.specs.Apart.{ApartRows, LateRows, MarginRows, StrayRows, TouchRows, behind, beside}
 pub use Rattle.definition_tests.specs.Carried.{CarriesRows, loaded_with}
+pub use Rattle.definition_tests.specs.FlightRejected.{DownRows, KeptRows, NearRows, RejectedLaw, SureRows, at_origin, begun, brief, flown_by, flown_unsure, heard_at, late_news, on_its_pad, sample_at, standing, turning, unhurried}
 pub use Rattle.definition_tests.specs.Flights.{flight}
 pub use Rattle.definition_tests.specs.Headlines.{HeadlineRows, WrittenRows, aside_plan, second_byte, second_entry, stay, stay_plan, stay_text, staying}
 pub use Rattle.definition_tests.specs.Meetings.{ExplainRows, MeetRows, close, level_at, meeting, only_slot, site, solo, solo_text, two_apart}

@@ -33,6 +33,14 @@ pub mod Small
 pub mod Legs
 pub mod Hosts
 pub mod Steps
+pub mod FlightExample
+pub mod FlightSaid
+pub mod FlightRejected
+pub mod FlightWatched
+pub mod FlightCovered
+pub mod FlightGroup
+pub mod FlightRoom
+pub mod FlightBounds
 pub mod Dialogues
 pub mod Values
 pub mod Radius

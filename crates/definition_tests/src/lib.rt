@@ -14,6 +14,14 @@ ghost use Rattle.definition_tests.specs.Certified.{ValidRows};
 ghost use Rattle.definition_tests.specs.Depths.{DepthRows, SearchRows};
 ghost use Rattle.definition_tests.specs.Dialogues.{DialogueRows};
 ghost use Rattle.definition_tests.specs.Ends.{EndsLaw};
+ghost use Rattle.definition_tests.specs.FlightBounds.{BoundRows};
+ghost use Rattle.definition_tests.specs.FlightCovered.{CoveredRows};
+ghost use Rattle.definition_tests.specs.FlightExample.{ExampleLaw};
+ghost use Rattle.definition_tests.specs.FlightGroup.{GroupRows};
+ghost use Rattle.definition_tests.specs.FlightRejected.{RejectedLaw};
+ghost use Rattle.definition_tests.specs.FlightRoom.{RoomRows};
+ghost use Rattle.definition_tests.specs.FlightSaid.{SaidRows};
+ghost use Rattle.definition_tests.specs.FlightWatched.{WatchedRows};
 ghost use Rattle.definition_tests.specs.Forms.{FormRows};
 ghost use Rattle.definition_tests.specs.Grids.{CountRows, NamingRows};
 ghost use Rattle.definition_tests.specs.Headlines.{HeadlineRows, WrittenRows};
@@ -502,6 +510,54 @@ pub fn event_rows()
 #[tactic(auto, using(crate::proofs::StepRows::directors))]
 pub fn director_rows()
     ensures { DirectorRows }
+{}
+
+/// A law. A small flight for which the premises of the flight director's laws hold, and what the laws then say of it.
+#[tactic(auto, using(crate::proofs::FlightExampleRows::example_law))]
+pub fn example_law()
+    ensures { ExampleLaw }
+{}
+
+/// A law. What the flight director says in that flight, in each phase and at each fault.
+#[tactic(auto, using(crate::proofs::FlightSaidRows::said_rows))]
+pub fn said_rows()
+    ensures { SaidRows }
+{}
+
+/// A law. Positions and shows that `IsFit` and `IsKeptShow` reject, each beside a neighbour that they accept.
+#[tactic(auto, using(crate::proofs::FlightKeptRows::rejected_law))]
+pub fn rejected_law()
+    ensures { RejectedLaw }
+{}
+
+/// A law. Whom `is_off_hold` finds off where drones are told to be, each beside a neighbour that it doesn't.
+#[tactic(auto, using(crate::proofs::FlightWatchedRows::watched_rows))]
+pub fn watched_rows()
+    ensures { WatchedRows }
+{}
+
+/// A law. When a landing is covered, and whom it may not reach: each value beside one that differs.
+#[tactic(auto, using(crate::proofs::FlightCoveredRows::covered_rows))]
+pub fn covered_rows()
+    ensures { CoveredRows }
+{}
+
+/// A law. Whom packets for a group reach, and when drones are armed: each value beside one that differs.
+#[tactic(auto, using(crate::proofs::FlightGroupRows::group_rows))]
+pub fn group_rows()
+    ensures { GroupRows }
+{}
+
+/// A law. Who is outside of a flight's room, each beside a neighbour that isn't.
+#[tactic(auto, using(crate::proofs::FlightRoomRows::room_rows))]
+pub fn room_rows()
+    ensures { RoomRows }
+{}
+
+/// A law. How near to a leg's beginning drones have to be: each bound beside one that differs.
+#[tactic(auto, using(crate::proofs::FlightBoundsRows::bound_rows))]
+pub fn bound_rows()
+    ensures { BoundRows }
 {}
 
 /// A law. What a dialogue takes of what comes, how it ends, and what it sends.

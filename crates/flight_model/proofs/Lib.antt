@@ -1,31 +1,23 @@
 mod Prelude
-mod Rows
-mod ExampleRows
-mod OrdersTo
+pub mod OrdersTo
 mod Choices
 mod Telling
-mod Beginning
+pub mod Beginning
 mod Rises
 mod Turns
 mod Ending
 mod Alarms
 mod Flown
 mod Quiet
-mod Sightings
-mod Shows
-mod Kept
+pub mod Sightings
+pub mod Shows
+pub mod Kept
 mod Holds
 mod Planned
 mod Drawn
-mod RejectedPositions
-mod RejectedShows
-mod WatchedRows
-mod GroupRows
-mod RoomRows
 mod Ours
-mod Rooms
+pub mod Rooms
 mod Outside
 mod Hears
 mod Wanted
-mod CoveredRows
-mod BoundRows
+mod MutantRows

@@ -10,10 +10,9 @@ pub mod Turns
 pub mod Kept
 pub mod Plan
 pub mod Draws
-pub mod Example
-pub mod Rejected
 pub mod Holds
-pub mod Watched
 pub mod Ours
 pub mod Outside
 pub mod Wanted
+pub mod Example
+pub mod Rows

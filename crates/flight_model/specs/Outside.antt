@@ -1,18 +1,16 @@
 -- Who is heard outside of the flight's room while drones are in the air is told of, and all land in that very event, or
 -- as soon as they may.
-use Rattle.std.specs.Prelude.{◌≡◌, ◌⊎◌, ℕ, ◌<◌, true, false, List, ◌++◌, ℤ, pos, negsuc, slice_get, Some}
-use Rattle.std.specs.Prelude.{Contains}
+use Rattle.std.specs.Prelude.{◌≡◌, ◌⊎◌, ℕ, ◌<◌, false, List, ℤ, slice_get, Some, Contains}
 use Rattle.flight_model.specs.declared.events.Order.TheVariants as order
 use Rattle.flight_model.specs.declared.events.Sample.{Sample}
 use Rattle.flight_model.specs.declared.events.Event.{Event}
 use Rattle.flight_model.specs.declared.events.Event.TheVariants.{Seen}
 use Rattle.flight_model.specs.declared.events.Fault.TheVariants.{Outside}
 use Rattle.flight_model.specs.declared.flights.Flight.{Flight}
-use Rattle.flight_model.specs.Rooms.{IsInRoom, is_in_room, room_of}
+use Rattle.flight_model.specs.Rooms.{IsInRoom}
 use Rattle.flight_model.specs.Directors.{Track, Steps, Landing, drones, start, notes, after, sent}
 use Rattle.flight_model.specs.Law.{LandsOrWaits, orders_to}
 use Rattle.flight_model.specs.Alarms.{IsToLand, note_of}
-use Rattle.flight_model.specs.Example.{down_at, room, sample, show_at, two, up_at}
 
 -- At these events some drone of the flight was told to rise.
 pub record HasRisen (f : Flight) (events : List Event) : Type 0 where
@@ -45,31 +43,3 @@ pub record OutsideLaw : Type 0 where
       ((after f (start f) events).phase ≡ Steps) ⊎ ((after f (start f) events).phase ≡ Landing) →
       slice_get (after f (start f) events).tracks d ≡ Some t → t.outside ≡ false →
       Contains (notes f (after f (start f) events) (Seen d x)) (note_of d Outside)
-
--- ---- by hand
-
--- a drone there
-abbrev pub there : ℤ → ℤ → ℤ → Sample
-there x y z = sample x y z true false
-
-pub record RoomRows : Type 0 where
-  -- the room of the small flight, whose texts allow their drones at most 100 mm of stray
-  pub made : room_of 300 (two up_at ++ (two show_at ++ two down_at)) ≡ room
-  -- at each end, and a millimetre farther
-  pub right : IsInRoom room (there (pos 2300) (pos 0) (pos 0))
-  pub past_right : IsInRoom room (there (pos 2301) (pos 0) (pos 0)) → ⊥
-  pub left : IsInRoom room (there (negsuc 299) (pos 0) (pos 0))
-  pub past_left : IsInRoom room (there (negsuc 300) (pos 0) (pos 0)) → ⊥
-  pub near : IsInRoom room (there (pos 0) (negsuc 299) (pos 1300))
-  pub past_near : IsInRoom room (there (pos 0) (negsuc 300) (pos 0)) → ⊥
-  pub far : IsInRoom room (there (pos 0) (pos 600) (pos 0))
-  pub past_far : IsInRoom room (there (pos 0) (pos 601) (pos 0)) → ⊥
-  pub past_top : IsInRoom room (there (pos 0) (pos 0) (pos 1301)) → ⊥
-  pub floor : IsInRoom room (there (pos 0) (pos 0) (negsuc 299))
-  pub below : IsInRoom room (there (pos 0) (pos 0) (negsuc 300)) → ⊥
-  -- the director finds the same
-  pub is_right : is_in_room room (there (pos 2300) (pos 0) (pos 0)) ≡ true
-  pub isnt_right : is_in_room room (there (pos 2301) (pos 0) (pos 0)) ≡ false
-  pub is_near : is_in_room room (there (pos 0) (negsuc 299) (pos 1300)) ≡ true
-  pub isnt_near : is_in_room room (there (pos 0) (negsuc 300) (pos 0)) ≡ false
-  pub isnt_top : is_in_room room (there (pos 0) (pos 0) (pos 1301)) ≡ false

@@ -1,7 +1,7 @@
 -- In whose turn each order goes out: what the steps of three ways ask before drones are armed, rise, start, are
 -- disarmed or halted. Law.antt says it of the steps of any flight; these laws name the steps.
 use Rattle.std.specs.Prelude.{◌≡◌, ◌⊎◌, ℕ, zero, suc, ◌+◌, ◌<◌, ◌≤◌, true, false, List, map, slice_get, Some, ℤ}
-use Rattle.std.specs.Prelude.{[], ◌∷◌, pos, Contains}
+use Rattle.std.specs.Prelude.{Contains}
 use Rattle.traj_codec.specs.declared.traj.Traj.{Traj}
 use Rattle.flight_model.specs.declared.events.Order.TheVariants as order
 use Rattle.flight_model.specs.declared.events.Sample.{Sample}
@@ -10,12 +10,10 @@ use Rattle.flight_model.specs.declared.events.Event.{Event}
 use Rattle.flight_model.specs.declared.events.Event.TheVariants.{Said}
 use Rattle.flight_model.specs.declared.flights.Flight.{Flight}
 use Rattle.flight_model.specs.Legs.{Routes, Leg, legs_of, leg, leg_count, leg_ms, ms_before, lasts, way_begins}
-use Rattle.flight_model.specs.Legs.{way_ends}
-use Rattle.flight_model.specs.Legs.{moves, position_of, steps_of}
+use Rattle.flight_model.specs.Legs.{way_ends, moves, position_of, steps_of}
 use Rattle.flight_model.specs.declared.flights.Position.{Position}
 use Rattle.flight_model.specs.Directors.{Track, State, Landing, heard, happens, says}
 use Rattle.flight_model.specs.Law.{orders_to, IsNear, StandsAt}
-use Rattle.flight_model.specs.Example.{routes}
 
 -- With the event e this is the last sample of drone d.
 pub record IsLastSample (f : Flight) (s : State) (e : Event) (d : ℕ) (x : Sample) : Type 0 where
@@ -144,33 +142,3 @@ pub record TurnLaw : Type 0 where
   -- or at the operator's stop
   pub halt : (f : Flight) (w : Routes) → f.steps ≡ steps_of w → (s : State) (e : Event) (d : ℕ) →
       Contains (orders_to d (says f s e)) order.Halt → e ≡ Said signal.Stop
-
--- ---- by hand
-
--- a leg on z alone
-abbrev pub from_to : ℕ → ℕ → Leg
-from_to a b = record {
-  from = pos 0 ∷ pos 0 ∷ pos a ∷ pos 0 ∷ [];
-  to = pos 0 ∷ pos 0 ∷ pos b ∷ pos 0 ∷ [];
-  ms = 1000;
-}
-
--- It waits on its pad, rises, and rises further; and it sinks, lands, and waits there.
-abbrev pub rising : List Leg
-rising = from_to 0 0 ∷ from_to 0 500 ∷ from_to 500 1000 ∷ []
-
-abbrev pub sinking : List Leg
-sinking = from_to 1000 500 ∷ from_to 500 0 ∷ from_to 0 0 ∷ []
-
--- In the small flight: 100 mm from a pad, and 50 from a place in the air.
-pub record BoundRows : Type 0 where
-  pub waits : IsUpBound routes rising 1 100
-  pub waits_close : IsUpBound routes rising 1 50 → ⊥
-  pub has_risen : IsUpBound routes rising 2 100
-  pub has_risen_close : IsUpBound routes rising 2 50 → ⊥
-  pub flies : IsUpBound routes rising 3 50
-  pub flies_far : IsUpBound routes rising 3 100 → ⊥
-  pub lands : IsDownBound routes sinking 1 50
-  pub lands_far : IsDownBound routes sinking 1 100 → ⊥
-  pub has_landed : IsDownBound routes sinking 2 100
-  pub has_landed_close : IsDownBound routes sinking 2 50 → ⊥

@@ -3,7 +3,7 @@
 //!
 //! `steps_of` of specs/Legs.antt makes the steps of three ways, `happens` and `says` of specs/Directors.antt are the
 //! director, specs/Law.antt and specs/Kept.antt have the laws. The code is `flight_director`, whose contracts cite
-//! them.
+//! them. Small values of the definitions are rows of `definition_tests`.
 #![tactic(auto)]
 
 mod events;
@@ -15,8 +15,5 @@ pub use events::{Event, Fault, Frame, Note, Order, Sample, Signal};
 pub use flights::{
     Condition, Course, Flight, Hold, Leg, Orders, Position, Room, Span, Step, Stretch, Window,
 };
-pub use law::{
-    bound_law, director_law, example_law, group_law, hears_law, plan_law, rejected_law, room_law,
-    watched_law,
-};
+pub use law::{director_law, mutant_law, plan_law, room_law};
 pub use states::{Choice, Phase, Track};

@@ -1,10 +1,10 @@
 -- Who is off where it is told to be, and who isn't.
-use Rattle.flight_model.proofs.Prelude.{refl}
+use Rattle.definition_tests.proofs.Prelude.{refl}
 unfoldable use Rattle.flight_model.specs.Legs.{steps_of}
 unfoldable use Rattle.flight_model.specs.Samples.{is_kept, is_on_course}
 unfoldable use Rattle.flight_model.specs.Example.{flight}
-unfoldable use Rattle.flight_model.specs.Watched.{is_off_at}
-use Rattle.flight_model.specs.Watched.{WatchedRows}
+unfoldable use Rattle.flight_model.specs.Rows.{is_off_at}
+use Rattle.definition_tests.specs.FlightWatched.{WatchedRows}
 unfoldable use Rattle.whole_numbers.specs.Decoded.{decoded}
 unfoldable use Rattle.whole_numbers.specs.Moments.{moment}
 unfoldable use Rattle.whole_numbers.specs.Bernstein.{bernstein}

@@ -1,27 +1,8 @@
 -- Where drones are watched on their way: whom `is_off_hold` finds off in a small flight, by hand, each beside a
 -- neighbour that it doesn't.
-use Rattle.std.specs.Prelude.{◌≡◌, ℕ, Bool, true, false, ℤ, pos, negsuc, []}
-use Rattle.flight_model.specs.Directors.{Steps, Landing, State, is_off_hold}
-use Rattle.flight_model.specs.Example.{flight, sample}
-
--- n steps of the small flight have begun, the last of them so long ago
-abbrev pub since : ℕ → ℕ → State
-since n waited = record {
-  phase = Steps;
-  next = n;
-  waited = waited;
-  steady = 0;
-  stood = 0;
-  showing = false;
-  kept = true;
-  wanted = false;
-  tracks = [];
-  answered = [];
-}
-
--- its second drone is found off there, in a sample of this age
-unfoldable pub is_off_at : State → ℕ → ℤ → ℤ → ℤ → Bool
-is_off_at s age x y z = is_off_hold (flight true) s 1 (record (sample x y z true false) { age = age })
+use Rattle.std.specs.Prelude.{◌≡◌, true, false, pos, negsuc}
+use Rattle.flight_model.specs.declared.states.Phase.TheVariants.{Landing}
+use Rattle.flight_model.specs.Rows.{since, is_off_at}
 
 -- On its way up and down a drone may be 100 mm from where its curve was within the last 200 ms; in the show 30 mm, a
 -- millisecond sooner or later. Heights: a way up of a metre in two seconds is at 289.79 mm after 800 ms, and at

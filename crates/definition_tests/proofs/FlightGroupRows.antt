@@ -1,5 +1,6 @@
 -- Whom packets for a group reach, and when drones are armed.
-use Rattle.flight_model.proofs.Prelude.{refl, GroupRows}
+use Rattle.definition_tests.proofs.Prelude.{refl}
+use Rattle.definition_tests.specs.FlightGroup.{GroupRows}
 unfoldable use Rattle.flight_model.specs.Legs.{steps_of}
 unfoldable use Rattle.flight_model.specs.Samples.{is_fit_by, is_kept, is_on_course}
 unfoldable use Rattle.flight_model.specs.Directors.{tracks_after, heard, may_land, is_due, notes, is_fault, choice, done, led, happens, says}
@@ -7,7 +8,7 @@ unfoldable use Rattle.whole_numbers.specs.Decoded.{decoded}
 unfoldable use Rattle.whole_numbers.specs.Moments.{moment}
 unfoldable use Rattle.whole_numbers.specs.Bernstein.{bernstein}
 unfoldable use Rattle.flight_model.specs.Example.{flight}
-unfoldable use Rattle.flight_model.specs.Ours.{said_at}
+unfoldable use Rattle.definition_tests.specs.FlightGroup.{said_at}
 
 pub group_rows : GroupRows
 unfolding steps_of is_fit_by is_kept is_on_course tracks_after heard may_land is_due notes is_fault choice done led happens says flight said_at decoded moment bernstein

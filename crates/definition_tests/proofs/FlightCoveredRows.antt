@@ -1,7 +1,7 @@
 -- When all may land, and what is said where they wait for it, in the small flight.
-use Rattle.flight_model.proofs.Prelude.{refl}
-use Rattle.flight_model.specs.Wanted.{CoveredRows}
-unfoldable use Rattle.flight_model.specs.Wanted.{may, said_before, said_late}
+use Rattle.definition_tests.proofs.Prelude.{refl}
+use Rattle.definition_tests.specs.FlightCovered.{CoveredRows}
+unfoldable use Rattle.definition_tests.specs.FlightCovered.{may, said_before, said_late}
 unfoldable use Rattle.flight_model.specs.Legs.{steps_of}
 unfoldable use Rattle.flight_model.specs.Samples.{is_fit_by, is_kept, is_on_course}
 unfoldable use Rattle.flight_model.specs.Directors.{tracks_after, heard, may_land, is_due, notes, is_fault, choice, done, led, happens, says}

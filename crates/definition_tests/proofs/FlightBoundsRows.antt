@@ -1,6 +1,7 @@
 -- How near drones have to be before a leg, of a small way up and down.
-use Rattle.flight_model.proofs.Prelude.{◌≡◌, ◌≤◌, ◌<◌, true, false, refl, ℕ, zero, suc, arith, leg, moves, routes, HoldsUntil, IsUpBound, IsDownBound}
-use Rattle.flight_model.specs.Turns.{BoundRows, rising, sinking}
+use Rattle.definition_tests.proofs.Prelude.{◌≡◌, ◌≤◌, ◌<◌, true, false, refl, ℕ, zero, suc, arith, leg, moves, routes}
+use Rattle.flight_model.specs.Turns.{HoldsUntil, IsUpBound, IsDownBound}
+use Rattle.definition_tests.specs.FlightBounds.{BoundRows, rising, sinking}
 
 one-held : HoldsUntil rising 1
 one-held zero l = refl

@@ -1,5 +1,6 @@
 -- Shows that weren't kept, beside one that was.
-use Rattle.flight_model.proofs.Prelude.{◌≡◌, ◌<◌, ◌≤◌, ◌+◌, ◌∷◌, ◌++◌, ◌∙◌, ◌||◌, ◌&&◌, [], List, Bool, true, false, refl, sym, ap, subst, ℕ, zero, suc, take, length, leb, eqb, arith, append_assoc, eq-eqb, le-leb, pos, Contains, Order, Sample, Event, Clock, Seen, Answered, Said, ToAll, Over, start, sent, after, orders_to, HasShow, IsHeard, IsKeptShow, time, brief, unhurried, late_news, flown_unsure, sample_at, heard_at, flown_by, begun, KeptRows}
+use Rattle.definition_tests.proofs.Prelude.{◌≡◌, ◌<◌, ◌≤◌, ◌+◌, ◌∷◌, ◌++◌, ◌∙◌, ◌||◌, ◌&&◌, [], List, Bool, true, false, refl, sym, ap, subst, ℕ, zero, suc, take, length, leb, eqb, arith, append_assoc, eq-eqb, le-leb, pos, Contains, Sample, Event, Clock, Seen, Answered, Said, ToAll, Over, start, sent, after, orders_to, HasShow, IsHeard, IsKeptShow, time, RejectedLaw, brief, unhurried, late_news, flown_unsure, sample_at, heard_at, flown_by, begun, KeptRows, kept_law, sent-append}
+use Rattle.flight_model.specs.declared.events.Order.{Order}
 use Rattle.flight_model.specs.declared.events.Order.TheVariants as order
 use Rattle.flight_model.specs.declared.events.Signal.TheVariants as signal
 unfoldable use Rattle.flight_model.specs.Samples.{is_fit_by, is_kept}
@@ -9,7 +10,7 @@ unfoldable use Rattle.whole_numbers.specs.Moments.{moment}
 unfoldable use Rattle.whole_numbers.specs.Bernstein.{bernstein}
 use Rattle.flight_model.proofs.OrdersTo.{orders_to-append}
 use Rattle.flight_model.proofs.Sightings.{time-append}
-use Rattle.flight_model.proofs.Kept.{kept_law, sent-append}
+use Rattle.definition_tests.proofs.FlightRejectedRows as positions
 
 -- ---- kept
 
@@ -283,8 +284,8 @@ early_go k =
       nothing : (os : List Order) → [] ≡ (order.Start ∷ []) ++ os → ⊥
       nothing os e = absurd (cc)
 
-pub rows : KeptRows
-rows = record {
+kept_rows : KeptRows
+kept_rows = record {
   kept = is_kept_show;
   astray = astray;
   unsure = unsure;
@@ -296,3 +297,6 @@ rows = record {
   no_go = no_go;
   early_go = early_go;
 }
+
+pub rejected_law : RejectedLaw
+rejected_law = record { positions = positions.rows; down = positions.down_rows; sure = positions.sure_rows; shows = kept_rows }

@@ -1,5 +1,6 @@
 -- The room of a small flight, by hand.
-use Rattle.flight_model.proofs.Prelude.{refl, arith, ints, RoomRows}
+use Rattle.definition_tests.proofs.Prelude.{refl, arith, ints}
+use Rattle.definition_tests.specs.FlightRoom.{RoomRows}
 unfoldable use Rattle.flight_model.specs.Rooms.{room_of}
 
 pub room_rows : RoomRows

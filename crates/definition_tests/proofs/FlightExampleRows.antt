@@ -1,5 +1,10 @@
 -- The premises of the laws hold of the small flight.
-use Rattle.flight_model.proofs.Prelude.{◌≡◌, ◌≢◌, ◌≤◌, ◌+◌, ◌∷◌, ◌||◌, ◌&&◌, ◌∙◌, [], List, Bool, true, false, not, refl, sym, ap, subst, None, Some, Option, ℕ, zero, suc, inl, inr, leb, eqb, arith, and_parts, not-true, eqb-true, le-leb, All-nil, All-cons, ℤ, pos, slice_get, Contains, list_any, Traj, Sample, Event, Clock, Seen, Answered, Said, Over, Step, Flight, IsWay, IsWayUp, IsWayDown, IsFlight, way_begins, way_ends, legs_of, leg, moves, goes_up, goes_down, start, sent, State, Track, next_step, all_fit, all_answered, is_silent, is_off, is_off_hold, is_outside, are_aloft, IsInRoom, is_in_room, IsQuiet, AllQuiet, HasShow, up_at, show_at, down_at, routes, whole, said, ExampleLaw}
+use Rattle.definition_tests.proofs.Prelude.{◌≡◌, ◌≢◌, ◌≤◌, ◌+◌, ◌∷◌, ◌||◌, ◌&&◌, ◌∙◌, [], List, Bool, true, false, not, refl, sym, ap, subst, None, Some, Option, ℕ, zero, suc, inl, inr, leb, eqb, arith, and_parts, not-true, eqb-true, le-leb, All-nil, All-cons, ℤ, pos, slice_get, Contains, list_any, Traj, Sample, Event, Clock, Seen, Answered, Said, Over, IsWay, IsWayUp, IsWayDown, IsFlight, way_begins, way_ends, legs_of, leg, moves, goes_up, goes_down, start, sent, State, next_step, all_fit, all_answered, is_silent, is_off, is_off_hold, is_outside, are_aloft, IsQuiet, AllQuiet, HasShow, up_at, show_at, down_at, routes, implied, kept_law}
+use Rattle.flight_model.specs.declared.flights.Step.{Step}
+use Rattle.flight_model.specs.declared.flights.Flight.{Flight}
+use Rattle.flight_model.specs.declared.states.Track.{Track}
+use Rattle.flight_model.specs.Rooms.{IsInRoom, is_in_room}
+use Rattle.definition_tests.specs.FlightExample.{whole, said, ExampleLaw}
 use Rattle.flight_model.specs.declared.events.Signal.TheVariants as signal
 unfoldable use Rattle.flight_model.specs.Legs.{steps_of}
 unfoldable use Rattle.flight_model.specs.Samples.{is_fit_by, is_kept, is_on_course}
@@ -8,10 +13,8 @@ unfoldable use Rattle.whole_numbers.specs.Decoded.{decoded}
 unfoldable use Rattle.whole_numbers.specs.Moments.{moment}
 unfoldable use Rattle.whole_numbers.specs.Bernstein.{bernstein}
 unfoldable use Rattle.flight_model.specs.Example.{flight}
-use Rattle.flight_model.proofs.Beginning.{implied}
 use Rattle.flight_model.proofs.Rooms.{in-room}
 use Rattle.flight_model.proofs.Shows.{has_show}
-use Rattle.flight_model.proofs.Kept.{kept_law}
 
 -- ---- quiet, computed
 

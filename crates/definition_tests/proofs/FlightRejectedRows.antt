@@ -1,7 +1,6 @@
 -- Positions that are too far for a condition, beside positions that aren't.
-use Rattle.flight_model.proofs.Prelude.{◌≡◌, true, refl, arith, ℤ, pos, negsuc, ints, Sample, IsFit, at_origin, standing, NearRows, on_its_pad, turning, DownRows, SureRows}
+use Rattle.definition_tests.proofs.Prelude.{◌≡◌, true, refl, arith, ℤ, pos, negsuc, ints, Sample, IsFit, at_origin, standing, NearRows, on_its_pad, turning, DownRows, SureRows, fit-true}
 unfoldable use Rattle.flight_model.specs.Samples.{is_fit_by}
-use Rattle.flight_model.proofs.Beginning.{fit-true}
 
 fit : (x y z : ℤ) → is_fit_by 500 at_origin (standing x y z) ≡ true → IsFit 500 at_origin (standing x y z)
 fit x y z h = fit-true 500 at_origin (standing x y z) h
