@@ -37,11 +37,12 @@ class Apart(Exception):
 
 class Home(Watched):
     """Brings all home. `doubt` is why a landing that begins now isn't shown apart, `landed_at` the show's time when the
-    last one began, `is_said` whether the fault was said, `told_away` who was said to be outside of the room, and
-    `takes` the milliseconds that `check` takes."""
+    last one began, `is_said` whether the fault was said, `told_away` who was said to be outside of the room,
+    `lands_away` who of them was told to land there, and `takes` the milliseconds that `check` takes."""
     doubt: Optional[str] = None
     landed_at = 0.0
     told_away: Set[int] = set()
+    lands_away: Set[int] = set()
     is_said = False
     takes = 200.0
 
@@ -211,26 +212,27 @@ class Home(Watched):
     # ---- on the ways: home by a way that is judged
 
     def come_home(self, front: str) -> Optional[str]:
-        """At a fault on the ways: where a landing of all from here isn't shown apart, the stage that is flown goes to
-        its end, and all come down from there by a way that is judged: the way that they came, the rest of the way
-        down, or a new one. What is left to do is a landing of who isn't down: why that isn't shown apart, or None."""
-        self.watch.lands = self.watch.was_pressed  # a first Ctrl-C lands who can
+        """At a fault on the ways, or a Ctrl-C there: where a landing of all from here isn't shown apart, the stage that is
+        flown goes to its end, and all come down from there by a way that is judged: the way that they came, the rest of
+        the way down, or a new one. At Ctrl-C those land before, at once, who can. What is left to do is a landing of
+        who isn't down: why that isn't shown apart, or None."""
+        is_pressed = self.watch.was_pressed
         while True:
+            self.watch.lands = is_pressed  # from then on a first Ctrl-C changes nothing any more
             try:
-                return self.home(front)
+                return self.home(front, is_pressed)
             except Apart:
                 return None
             except Interrupted:
-                self.watch.lands = True
-            self.fleet.radio.drop()
-            why, front = self.refusal_now(), "Ctrl-C, once more stops the motors"
-            if why is None:
-                return None
-            able = self.able()
-            say(f"{front}; a landing of all now isn't shown apart ({landings.short(why)}); "
-                f"landing now: {self.words_of(able) or 'nobody'}")
-            if able:
-                self.bring_down(sorted(able))
+                front, is_pressed = "Ctrl-C, once more stops the motors", True
+
+    def land_able(self, front: str, why: str) -> None:
+        """Lands those at once who can, as the crew wants it."""
+        able = self.able()
+        say(f"{front}; a landing of all now isn't shown apart ({landings.short(why)}); "
+            f"landing now: {self.words_of(able) or 'nobody'}")
+        if able:
+            self.bring_down(sorted(able))
 
     def land_away(self) -> None:
         """Says who is outside of the room, and lands those there who flew out and are clear of all others."""
@@ -247,14 +249,16 @@ class Home(Watched):
                 ("landing there:", clear), ("it may be where it was:", misled & away),
                 ("NOT JUDGED beside", away - misled - set(clear))) if them))
         if clear:
+            self.lands_away = self.lands_away | set(clear)
             self.fleet.land(self.floors, clear, 0.0, self.watch.look, {k: self.seconds_down([k]) for k in clear})
 
     def able(self) -> Set[int]:
-        """Who may land at once whatever the others do: nobody else who lands, or goes on, comes above or below it."""
-        here = self.near(self.places_here())
+        """Who may land at once whatever the others do: nobody else who lands, or goes on, comes above or below it. Who
+        was told to land away from the others does so already."""
+        here = self.places_here()
         columns = {k: self.column(k, here) for k in here}
         tracks = {k: landings.Column(here[k], self.aims[k], columns[k].reach) for k in here}
-        able = set(here) - self.hold(here) - self.deaf()
+        able = set(here) - self.hold(here) - self.deaf() - self.lands_away
         while True:
             near = {k: sum(columns[k].apart(columns[j] if j in able else tracks[j]) <= self.ways.rules.side()
                            for j in here if j != k) for k in able}
@@ -263,8 +267,8 @@ class Home(Watched):
                 return able
             able.discard(worst)
 
-    def home(self, front: str) -> Optional[str]:
-        """The same, as far as the crew says nothing; raises Apart where all may land."""
+    def home(self, front: str, is_pressed: bool) -> Optional[str]:
+        """The same, as far as the crew says nothing more; raises Apart where all may land."""
         self.fleet.radio.drop()
         why = self.refusal_now()
         if why is None:
@@ -272,6 +276,8 @@ class Home(Watched):
         self.land_away()
         self.director.close_input()  # what follows is none of its flight
         self.is_said = True
+        if is_pressed:
+            self.land_able(front, why)
         gone_back = self.zero is not None and self.leg is self.ways.up
         if gone_back:
             self.break_off(front, why)
