@@ -134,8 +134,9 @@ FLIGHTS = {
     "two Ctrl-C, deaf": (b("deaf") + ["--unicast"], HIGH, YES, ctrl_c("started", "Ctrl-C: landing")),
     "Ctrl-C in a landing": (b("falls:1.2"), HIGH, YES, ctrl_c("; landing all")),
     "two in a landing": (b("falls:1.2"), HIGH, YES, ctrl_c("; landing all", "the landing goes on")),
+    "forgets": (["--no-home", *b("forgets")],),  # the packets are those of the show
     **{fault: (b(fault),) for fault in (
-        "dead", "outdated", "empty", "unsettled", "astray", "memory", "locked", "deaf", "lost", "forgets", "unarmed", "stays",
+        "dead", "outdated", "empty", "unsettled", "astray", "memory", "locked", "deaf", "lost", "unarmed", "stays",
         "stuck", "deafens", "refuses", "wanders:2", "falls:4", "drains:2", "hovers")},
 }
 RUNS = flights.Flights(AT_ONCE, {**{name: (fly, *given) for name, given in FLIGHTS.items()}, "terminal": (terminal_gone,)})

@@ -98,8 +98,8 @@ def options_of(words: list[str]) -> argparse.Namespace:
                         "motors: for these two the show isn't read, but for simulated drones")
     reader.add_argument("--on-silence", choices=("continue", "land"), default="continue",
                         help="where a drone is silent in the show: fly on to its end, or land the others")
-    reader.add_argument("--home", action="store_true", help="upload the way down with the show, so that drones come "
-                        "home by themselves where the radio or this machine dies")
+    reader.add_argument("--no-home", dest="home", action="store_false", help="upload the show alone: without the way "
+                        "down behind it drones hover at its end where the radio or this machine dies")
     reader.add_argument("--low", action="store_true", help="let a show below z 0 through")
     reader.add_argument("--strangers", action="store_true", help="fly although drones are on that aren't in the show: "
                         "they hear landings and stops")
@@ -190,6 +190,7 @@ def fly(radio: crazyradio.Radio, flown: Flown, text: bytes, pads: Sequence[Place
     fleet, ways, bridge, status = Fleet(radio, log), None, None, EARLY
     try:
         ways = Ways(flown, text, preflight(fleet, flown, pads, hall, options), options)
+        ways.add_home()
         ways.tell()
         if options.only is None:
             ways.prepare()

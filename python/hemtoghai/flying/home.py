@@ -8,7 +8,7 @@ of what happens from the first fault on, so that it gives no orders any more: bu
 """
 import math
 from itertools import combinations
-from typing import Callable, Dict, Iterator, List, Optional, Set, Tuple
+from typing import Callable, Dict, Iterable, Iterator, List, Optional, Set, Tuple
 
 from hemtoghai.companion import many
 from hemtoghai.flying import clock, firmware, landings
@@ -37,13 +37,14 @@ class Apart(Exception):
 
 class Home(Watched):
     """Brings all home. `doubt` is why a landing that begins now isn't shown apart, `landed_at` the show's time when the
-    last one began, `is_said` whether the fault was said, `told_away` who was said to be outside of the room,
-    `lands_away` who of them was told to land there, and `takes` the milliseconds that `check` takes."""
+    last one began, `is_said` whether the fault was said, `is_said_homeward` whether it was said that one that isn't heard
+    may come home, `told_away` who was said to be outside of the room, `lands_away` who of them was told to land there,
+    and `takes` the milliseconds that `check` takes."""
     doubt: Optional[str] = None
     landed_at = 0.0
     told_away: Set[int] = set()
     lands_away: Set[int] = set()
-    is_said = False
+    is_said = is_said_homeward = False
     takes = 200.0
 
     # ---- the flight director, which isn't told any more of what happens
@@ -399,6 +400,7 @@ class Home(Watched):
         """A stage of the way home: it is flown whatever is wrong, but for what a look raises, and a second Ctrl-C stops
         all motors. Who didn't answer, or isn't down, in words."""
         seconds = stage.milliseconds / 1000
+        self.say_homeward(seconds)
         before = {k: self.aims[k] for k in stage.to}
         self.begin_moves(self.places_here(), stage)
         self.aims.update(stage.to)
@@ -420,6 +422,24 @@ class Home(Watched):
             say(words)
         self.pause(clock.now() + seconds + 1, look)
         return mute
+
+    def goes_home(self, drones: Iterable[int]) -> Set[int]:
+        """Who of these drones isn't heard, and comes home by itself after a while where it flies."""
+        return self.silent.intersection(drones) if self.zero is not None and self.ways.no_home is None else set()
+
+    def say_homeward(self, seconds: float) -> None:
+        """Says who may come home by itself before a stage is over: what others fly isn't judged beside that."""
+        going = self.goes_home(self.all)
+        if going and clock.now() + seconds > self.ends() + self.ways.pause / 1000 - 0.5 and not self.is_said_homeward:
+            self.is_said_homeward = True
+            say(f"NOT JUDGED beside drones that may come home by themselves by then: {self.words_of(going)}")
+
+    def stay(self, up: List[int]) -> List[int]:
+        going = self.goes_home(up)
+        if going:
+            say(f"keep clear of the pads of drones that come home by themselves, if they fly, from {self.ways.pause / 1000:g} "
+                f"s after the show's end on: {self.words_of(going)}")
+        return super().stay(up)
 
     def say_late(self, late: float) -> bool:
         """Says it where a stage's commands were answered later than was judged, in milliseconds; whether they were."""

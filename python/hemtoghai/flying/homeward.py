@@ -1,27 +1,35 @@
-"""The way home of drones that hear nothing any more, for ./show fly --home.
+"""The way home of drones that hear nothing any more, for ./show fly.
 
-A trajectory ends in the air: where the radio or its machine dies, drones hover there until they fall. With --home what
-is uploaded goes on after the show: all pause, and then fly the way down, to ABOVE mm above their pads. The show, the
+A trajectory ends in the air: where the radio or its machine dies, drones hover there until they fall. So what is
+uploaded goes on after the show: all pause, and then fly the way down, to ABOVE mm above their pads. The show, the
 pause and the way down are one show, which `check` judges and `upload` sends. A drone that hears is told something else
 long before the pause is over. One that doesn't comes down where the others stand on their pads, or come down as it
 does: both are judged. Millimetres and milliseconds.
 """
+from math import ceil
 from typing import Dict, Mapping, Optional, Tuple
 
 from hemtoghai.flying.stages import judge_stages, LAND, Leg, Place, refusal_of
 from hemtoghai.language.choreo import Flown
 from hemtoghai.language.lines import line_in
 
-# The flight director begins a way down within some 10 s of the show's end, or has all land; and a way home that is
-# looked for in flight, beside a drone that hovers at the end, is over by then, but for a very long one.
-PAUSE = 60000
+# The flight director begins a way down within some 10 s of the show's end, or has all land. A way home that is looked
+# for in flight, beside a drone that hovers at the end, is over by then where it isn't twice as long as the way down,
+# with what passes between its stages: the pause is as long as that, and BEFORE.
+LEAST, BEFORE, BETWEEN = 60000, 30000, 1500
 ABOVE = 50  # above its pad, where a drone ends: no landing is in a trajectory
+
+
+def pause_before(down: Leg) -> int:
+    """How long all pause before a way down, in whole seconds."""
+    return max(LEAST, 1000 * ceil((BEFORE + 2 * (down.milliseconds() + BETWEEN * len(down.stages))) / 1000))
 
 
 def text_of(flown: Flown, text: bytes, down: Leg) -> bytes:
     """The text of a show that goes on with a pause and a way down, whose landings end above the pads."""
-    form = flown.show.form
-    rows = [line_in(form, "cue", PAUSE), "end"]
+    form, pause, rows = flown.show.form, pause_before(down), list[str]()
+    for begin in range(0, pause, LEAST):  # in parts that a cue may last
+        rows += [line_in(form, "cue", min(LEAST, pause - begin)), "end"]
     for stage in down.stages:
         above = ABOVE * (stage.kind == LAND)
         rows += [line_in(form, "cue", stage.milliseconds)]

@@ -39,8 +39,8 @@ def words_of(cause: director.Cause, names: Sequence[str]) -> str:
 
 class Ways:
     """The ways up from pads, in mm, and down, judged, and the landings of the show; raises Trouble where there is no
-    way, or the flight director doesn't take them. `text` is what is uploaded and `uploaded` what it flies: the show, or
-    with --home the way home besides, where `no_home` is None; else that is why it isn't there."""
+    way, or the flight director doesn't take them. `text` is what is uploaded and `uploaded` what it flies: the show and
+    the way home, which begins `pause` milliseconds after the show's end; or the show alone, where `no_home` says why."""
 
     def __init__(self, flown: Flown, text: bytes, pads: Sequence[Place], options: argparse.Namespace) -> None:
         self.flown, self.options, self.pads = flown, options, dict(enumerate(pads))
@@ -64,11 +64,7 @@ class Ways:
         self.texts = [self.up.text(), text, self.down.text()]
         self.ask_director()
         self.text, self.uploaded = text, flown
-        self.no_home: Optional[str] = None
-        if options.home:
-            whole, self.no_home = homeward.judged(flown, text, self.down, self.pads)
-            if whole is not None:
-                self.text, self.uploaded = whole, flown_of(whole)
+        self.pause, self.no_home = homeward.pause_before(self.down), "--no-home"  # type: int, Optional[str]
         self.landings = Landings(flown, self.floors, self.rules)
         self.rows: Dict[int, List[StageLandings]] = {
             id(leg): [StageLandings(leg, number, self.floors) for number in range(len(leg.stages))]
@@ -106,6 +102,14 @@ class Ways:
             status, ": " + "; ".join(words) if words else ""))
 
     # ---- what is judged before take-off
+
+    def add_home(self) -> None:
+        """Adds the way home to what is uploaded, where it is accepted."""
+        if not self.options.home:
+            return
+        whole, self.no_home = homeward.judged(self.flown, self.text, self.down, self.pads)
+        if whole is not None:
+            self.text, self.uploaded = whole, flown_of(whole)
 
     def prepare(self) -> None:
         """Has all that a fault on the ways may ask judged, by a thread."""
@@ -205,10 +209,9 @@ class Ways:
                                                "as a whole" if leg.whole else "stage by stage"))
             for line in leg.lines(top):
                 say(line)
-        if self.options.home:
-            say(f"NO WAY HOME WITHOUT RADIO: {self.no_home}" if self.no_home else
-                f"without radio all come home by themselves, from {homeward.PAUSE / 1000:g} s after the show's end on, "
-                f"to {homeward.ABOVE} mm above their pads: {max(map(len, self.uploaded.data()))} bytes at most")
+        say(f"NO WAY HOME WITHOUT RADIO: {self.no_home}" if self.no_home else
+            f"without radio all come home by themselves, from {self.pause / 1000:g} s after the show's end on, "
+            f"to {homeward.ABOVE} mm above their pads: {max(map(len, self.uploaded.data()))} bytes at most")
         say("landing of all from the show:")
         for line in self.landings.lines():
             say("  " + line)
