@@ -14,8 +14,8 @@ from hemtoghai.language.choreo import Flown
 from hemtoghai.language.lines import line_in
 
 # The flight director begins a way down within some 10 s of the show's end, or has all land. A way home that is looked
-# for in flight, beside a drone that hovers at the end, is over by then where it isn't twice as long as the way down,
-# with what passes between its stages: the pause is as long as that, and BEFORE.
+# for in flight, beside a drone that hovers at the end, is over when the pause ends, unless it takes more than twice the
+# way down with what passes between its stages: the pause is as long as that, and BEFORE.
 LEAST, BEFORE, BETWEEN = 60000, 30000, 1500
 ABOVE = 50  # above its pad, where a drone ends: no landing is in a trajectory
 
