@@ -12,7 +12,7 @@ SECONDS = {
     "bezier_core": 37, "byte_streams": 96, "certificate_checker": 44, "choreo_lines": 113, "choreo_reader": 78,
     "choreo_show": 9, "command_words": 59, "crtp_packets": 30, "cue_grid": 158, "drill_show": 17, "dynamics_bound": 44,
     "figure_expand": 82, "firmware_memory": 22, "fleet_curves": 37, "fleet_world": 65, "flight_director": 75,
-    "flight_link": 68, "flight_model": 35, "flight_steps": 97, "integer_player": 49, "keepout_boxes": 70,
+    "flight_link": 68, "flight_model": 30, "flight_steps": 97, "integer_player": 49, "keepout_boxes": 70,
     "link_dialogue": 9, "link_frames": 16, "link_upload": 56, "listed": 3, "mm_rounding": 29, "pair_search": 121,
     "refusals": 32, "rehearsal": 34, "report_text": 17, "sep_certificate": 24, "sep_parts": 116, "show_cli": 100,
     "show_direct": 67, "show_judge": 94, "show_looks": 80, "show_plan": 78, "show_run": 95, "show_studies": 94,
