@@ -13,10 +13,10 @@ ghost use Rattle.show_direct.specs.Direct.{DirectLaw, FlyAsOne, HasBegun, direct
 ghost use Rattle.show_direct.specs.Steps.{Carries, FlightRead, TookLittle, coming, left_of, since};
 
 use crate::making::make_flight;
-use command_words::FlightOptions;
 use crate::reading::{Unflown, end_unflown, read_show};
 use byte_streams::{Parts, Sink, Source, marker_law};
 use choreo_reader::show_law;
+use command_words::FlightOptions;
 use flight_link::flight_link_law;
 use flight_model::{Flight, director_law};
 use std::alloc::Global;
