@@ -1,5 +1,5 @@
 """python/hemtoghai/language/quantities.py and the reader of `choreo 2`: words in their places with values worked out by
-hand, those that crates/quantities proves, and random words against fractions."""
+hand, those that crates/choreo_lines proves, and random words against fractions."""
 import os
 import random
 import re
@@ -72,9 +72,9 @@ class Words(unittest.TestCase):
             self.assertIsNone(quantities.value_of(counts, wrong), (counts.name, wrong))
 
     def test_proved_rows(self):
-        """The rows of crates/quantities that hold of its definitions by computing them: the same words, the same
+        """The rows of crates/choreo_lines that hold of its definitions by computing them: the same words, the same
         values."""
-        with open(os.path.join(TOP, "crates", "quantities", "proofs", "Rows.antt"), encoding="utf-8") as file:
+        with open(os.path.join(TOP, "crates", "choreo_lines", "proofs", "QuantityRows.antt"), encoding="utf-8") as file:
             text = file.read()
         seen = 0
         for name, rows in re.findall(r"^\w+ : AllAre (\w+) \((.*?)^    \[\]\)", text, re.M | re.S):
@@ -87,7 +87,7 @@ class Words(unittest.TestCase):
 
     def test_proved_ranges(self):
         """Those with limits: a value, or the fault."""
-        with open(os.path.join(TOP, "crates", "quantities", "proofs", "Rows.antt"), encoding="utf-8") as file:
+        with open(os.path.join(TOP, "crates", "choreo_lines", "proofs", "QuantityRows.antt"), encoding="utf-8") as file:
             rows = re.findall(r"quantity_in (\w+) (.*?) \(codes \"(.*?)\"\) ≡ (Ok|Err) (.*)\)", file.read())
         self.assertGreater(len(rows), 12)
         for name, limits, word, kind, value in rows:
